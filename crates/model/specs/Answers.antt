@@ -1,0 +1,32 @@
+-- Document 01's number and values for each case of an enum that an operation answers.
+-- Assumes nothing.
+use Prim.Native.Nat.{ℕ}
+use mathlib.Core.List.{List, [], _∷_}
+use Rattle.model.specs.Verdict.{Answer, gives, refuses}
+use Rattle.model.specs.Table as Table
+use Rattle.model.specs.Table.{layoutFrame, jobFrame, soloFrame, endFrame}
+use Rattle.model.specs.declared.Frame.{Frame}
+use Rattle.model.specs.declared.Frame.the-variants.{Layout, Job, Solo, End}
+use Rattle.model.specs.declared.FrameRead.{FrameRead}
+use Rattle.model.specs.declared.FrameRead.the-variants as frame-read
+use Rattle.model.specs.declared.Settled.{Settled}
+use Rattle.model.specs.declared.Settled.the-variants as settled
+use Rattle.model.specs.declared.TableRead.{TableRead}
+use Rattle.model.specs.declared.TableRead.the-variants as table-read
+
+-- a frame read, as the table's line has it: 01 P, 02 T B, 04 T B, 03 N M
+abbrev pub frameCase : Frame → Table.Frame
+frameCase (Layout p) = layoutFrame (p .0)
+frameCase (Job t b) = jobFrame (t .0) (b .0)
+frameCase (Solo t b) = soloFrame (t .0) (b .0)
+frameCase (End n m) = endFrame n m
+
+-- settling gives back nothing beside its buffers, or refuses
+abbrev pub settledAnswer : Settled → Answer
+settledAnswer settled.Done = gives []
+settledAnswer (settled.Refused r) = refuses (r .number) (r .place)
+
+-- reading a table gives N and M, or refuses
+abbrev pub tableAnswer : TableRead → Answer
+tableAnswer (table-read.Read c) = gives (c .layouts ∷ c .jobs ∷ [])
+tableAnswer (table-read.Refused r) = refuses (r .number) (r .place)

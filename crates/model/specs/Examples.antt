@@ -1,0 +1,101 @@
+-- Document 01's worked tables ("Tables to try", those marked ◆): one table of examples, and one fact about it.
+-- Assumes nothing.
+use Prim.Native.Nat.{ℕ, zero, suc, _+_, _*_, _^_}
+use mathlib.Core.Path.{_≡_, refl}
+use mathlib.Core.Bool.{Bool, true, false, cond}
+use mathlib.Core.List.{List, [], _∷_, _++_, map, flatMap, headD}
+use lib.ListN.{length}
+use Rattle.model.specs.Lists.{numbersFrom, numbers, elem, indexOf, lastD, any, all, select, count, find, total, insertBy, sortBy}
+use Rattle.model.specs.Verdict.{Verdict, accepted, refused}
+use Rattle.model.specs.Tree.{FFFF, rightParent, layoutsFrom, treeVerdict, climb, chain, above, depth, children, orSelf, leavesWithin, leaves, firstLeaf, lastLeaf}
+use Rattle.model.specs.Jobs.{Table, solo, upTo, pathFrom, path, shares, deepestShared, topDepth, bottomLeaf, jobVerdict}
+use Rattle.model.specs.Order.{earlier, runningOrder, place, leftward, slotOrder, slot}
+use Rattle.model.specs.Greedy.{Pass, pair, single, without, turn, turns, greedy, compatible, passes}
+use Rattle.model.specs.Visits.{levelsFrom, levels, cellVisits, visits, askedFrom, askedTo, lookupVisits, passVisits, cellCount}
+use Rattle.model.specs.Planning.{workCells, lentVerdict, jobsVerdict, planVerdict, partnerIn, pairCount, singleCount, printed, pairs, singles}
+use Rattle.model.specs.Table.{Reading, read, stopped, isDigit, digitValue, numberAfter, lead, lines, frameOfKind, frameOf, isEnd, outOfOrder, contentVerdict, frameVerdict, extended, unlessRefused, readFrame, readLines, readTable}
+use Rattle.model.specs.Output.{digit, hex, line, passLine, totalsLine, planBytes, refusalBytes, readingBytes, runBytes}
+
+-- a plan's passes, `I J L` or `I`, with its totals; or a refusal's number and place
+data Outcome : Type 0 where
+  plans : List (List ℕ) → ℕ → ℕ → ℕ → Outcome
+  turnsAway : ℕ → ℕ → Outcome
+
+passNumbers : Table → Pass → List ℕ
+passNumbers tb (pair i j) = i ∷ j ∷ printed tb i ∷ []
+passNumbers tb (single i) = i ∷ []
+
+outcome : Table → Verdict → Outcome
+outcome tb accepted = plans (map (passNumbers tb) (passes tb)) (pairs tb) (singles tb) (cellCount tb)
+outcome tb (refused number place) = turnsAway number place
+
+-- a job as top-bottom
+record Job : Type 0 where
+  top : ℕ
+  bottom : ℕ
+  mark : ℕ
+
+infix 70 _-_
+_-_ : ℕ → ℕ → Job
+t - b = record { top = t; bottom = b; mark = 0 }
+
+infix 70 _solo_
+_solo_ : ℕ → ℕ → Job
+t solo b = record { top = t; bottom = b; mark = 1 }
+
+-- a parent list, jobs, and what is expected of them
+record Example : Type 0 where
+  parents : List ℕ
+  jobs : List Job
+  expected : Outcome
+
+tableOf : Example → Table
+tableOf e =
+    record {
+      parents = e .parents;
+      tops = map (λ (j : Job). j .top) (e .jobs);
+      bottoms = map (λ (j : Job). j .bottom) (e .jobs);
+      marks = map (λ (j : Job). j .mark) (e .jobs);
+    }
+
+-- what *Plan* does, with buffers of the right sizes
+planned : Example → Outcome
+planned e =
+    outcome (tableOf e) (planVerdict (tableOf e) (length (e .jobs)) (length (e .jobs)) workCells)
+
+F : ℕ
+F = FFFF
+
+bakehouse : Example
+bakehouse =
+    record {
+      parents = F ∷ 0 ∷ 0 ∷ 1 ∷ [];
+      jobs = 0 - 3 ∷ 1 - 3 ∷ 2 - 2 ∷ 0 - 2 ∷ 3 - 3 ∷ [];
+      expected = plans ((4 ∷ 1 ∷ 3 ∷ []) ∷ (2 ∷ 3 ∷ 2 ∷ []) ∷ (0 ∷ []) ∷ []) 2 1 0x19;
+    }
+
+examples : List Example
+examples =
+    record { parents = F ∷ []; jobs = []; expected = plans [] 0 0 0 }
+    ∷ record { parents = F ∷ []; jobs = 0 - 0 ∷ []; expected = plans ((0 ∷ []) ∷ []) 0 1 1 }
+    ∷ record { parents = F ∷ []; jobs = 0 - 0 ∷ 0 - 0 ∷ []; expected = plans ((0 ∷ 1 ∷ 0 ∷ []) ∷ []) 1 0 1 }
+    ∷ record { parents = F ∷ []; jobs = 0 - 0 ∷ 0 solo 0 ∷ []; expected = plans ((0 ∷ []) ∷ (1 ∷ []) ∷ []) 0 2 1 }
+    ∷ record { parents = F ∷ 0 ∷ []; jobs = 0 - 0 ∷ 1 - 1 ∷ []; expected = plans ((1 ∷ []) ∷ (0 ∷ []) ∷ []) 0 2 2 }
+    ∷ record {
+      parents = F ∷ 0 ∷ 0 ∷ [];
+      jobs = 0 - 1 ∷ 0 - 2 ∷ 1 - 1 ∷ 2 - 2 ∷ [];
+      expected = plans ((2 ∷ 0 ∷ 1 ∷ []) ∷ (3 ∷ 1 ∷ 2 ∷ []) ∷ []) 2 0 6;
+    }
+    ∷ record {
+      parents = F ∷ 0 ∷ [];
+      jobs = 1 - 1 ∷ 1 - 1 ∷ 0 - 1 ∷ 0 - 0 ∷ [];
+      expected = plans ((0 ∷ 1 ∷ 1 ∷ []) ∷ (2 ∷ 3 ∷ 0 ∷ []) ∷ []) 2 0 2;
+    }
+    ∷ bakehouse
+    ∷ record { parents = F ∷ 1 ∷ []; jobs = []; expected = turnsAway 4 1 }
+    ∷ record { parents = F ∷ 0 ∷ []; jobs = 1 - 0 ∷ []; expected = turnsAway 6 0 }
+    ∷ []
+
+examples-hold : map planned examples ≡ map (λ (e : Example). e .expected) examples
+unfolding numbersFrom numbers elem indexOf lastD any all select count find total insertBy sortBy rightParent layoutsFrom treeVerdict climb chain above depth children orSelf leavesWithin leaves firstLeaf lastLeaf solo upTo pathFrom path shares deepestShared topDepth bottomLeaf jobVerdict earlier runningOrder place leftward slotOrder slot without turn turns greedy compatible passes levelsFrom levels cellVisits visits askedFrom askedTo lookupVisits passVisits cellCount lentVerdict jobsVerdict planVerdict partnerIn pairCount singleCount printed pairs singles passNumbers outcome _-_ _solo_ tableOf planned F bakehouse examples flatMap headD
+examples-hold = refl

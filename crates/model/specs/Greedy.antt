@@ -1,0 +1,44 @@
+-- The matching rule (000, Algorithm 1): each vertex still free at its turn takes the first free later vertex that it is compatible with.
+-- Assumes nothing.
+use Prim.Native.Nat.{ℕ, zero, suc}
+use mathlib.Core.Bool.{Bool, not, _&&_}
+use mathlib.Core.Option.{Option, none, some}
+use mathlib.Core.List.{List, [], _∷_}
+use lib.ListN.{length}
+use lib.Dec.{eqb}
+use Rattle.model.specs.Lists.{find, select}
+use Rattle.model.specs.Jobs.{Table, solo, shares}
+use Rattle.model.specs.Order.{runningOrder}
+
+-- a pass of the press: two jobs, the earlier first, or one
+pub data Pass : Type 0 where
+  pair : ℕ → ℕ → Pass
+  single : ℕ → Pass
+
+-- the list without j
+unfoldable pub without : ℕ → List ℕ → List ℕ
+without j vs = select (λ (v : ℕ). not (eqb v j)) vs
+
+-- v's turn: with j, where one was found among vs, else alone; and then what `rest` makes of the others
+unfoldable pub turn : (List ℕ → List Pass) → ℕ → List ℕ → Option ℕ → List Pass
+turn rest v vs none = single v ∷ rest vs
+turn rest v vs (some j) = pair v j ∷ rest (without j vs)
+
+-- at most n turns
+unfoldable pub turns : ℕ → (ℕ → ℕ → Bool) → List ℕ → List Pass
+turns zero compatible vs = []
+turns (suc n) compatible [] = []
+turns (suc n) compatible (v ∷ vs) = turn (turns n compatible) v vs (find (compatible v) vs)
+
+-- the passes that the greedy rule makes of vertices in order
+unfoldable pub greedy : (ℕ → ℕ → Bool) → List ℕ → List Pass
+greedy compatible vs = turns (length vs) compatible vs
+
+module _ (tb : Table) where
+  -- neither is solo, and they share
+  unfoldable pub compatible : ℕ → ℕ → Bool
+  compatible i j = not (solo tb i) && not (solo tb j) && shares tb i j
+
+  -- the plan: the greedy rule over the running order
+  unfoldable pub passes : List Pass
+  passes = greedy compatible (runningOrder tb)

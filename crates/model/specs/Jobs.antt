@@ -1,0 +1,71 @@
+-- Jobs as downward paths, and sharing (document 01, "The tree and the running order"; 000, Definition 3).
+-- Assumes nothing.
+use Prim.Native.Nat.{ℕ}
+use mathlib.Core.Bool.{Bool, cond, not, _||_, _&&_}
+use mathlib.Core.List.{List, [], _∷_, headD}
+use lib.ListN.{length, getD}
+use lib.Dec.{eqb, leb}
+use Rattle.model.specs.Lists.{elem, any, select}
+use Rattle.model.specs.Verdict.{Verdict, refuseIf, _then_}
+use Rattle.model.specs.Tree.{FFFF, chain, above, depth, firstLeaf}
+
+-- a table: the parents of its layouts, the tops, bottoms and solo marks of its jobs
+pub record Table : Type 0 where
+  pub parents : List ℕ
+  pub tops : List ℕ
+  pub bottoms : List ℕ
+  pub marks : List ℕ
+
+-- at most 4,096 jobs
+abbrev pub jobLimit : ℕ
+jobLimit = 4096
+
+module _ (tb : Table) where
+  -- M, the number of jobs
+  abbrev pub jobs : ℕ
+  jobs = length (tb .tops)
+
+  abbrev pub top : ℕ → ℕ
+  top j = getD (tb .tops) j 0
+
+  abbrev pub bottom : ℕ → ℕ
+  bottom j = getD (tb .bottoms) j 0
+
+  -- a mark other than 0 counts as solo
+  unfoldable pub solo : ℕ → Bool
+  solo j = not (eqb (getD (tb .marks) j 0) 0)
+
+-- a list up to and with t
+unfoldable pub upTo : ℕ → List ℕ → List ℕ
+upTo t [] = []
+upTo t (x ∷ xs) = x ∷ cond (eqb x t) [] (upTo t xs)
+
+-- every layout from the bottom b up to the top t
+unfoldable pub pathFrom : List ℕ → ℕ → ℕ → List ℕ
+pathFrom ps t b = upTo t (chain ps b)
+
+module _ (tb : Table) where
+  -- a job's path is every layout from bottom up to top
+  unfoldable pub path : ℕ → List ℕ
+  path j = pathFrom (tb .parents) (top tb j) (bottom tb j)
+
+  -- two jobs share if some layout is on both paths
+  unfoldable pub shares : ℕ → ℕ → Bool
+  shares i j = any (λ (x : ℕ). elem x (path j)) (path i)
+
+  -- the deepest layout on both paths, on which the pair prints
+  unfoldable pub deepestShared : ℕ → ℕ → ℕ
+  deepestShared i j = headD (select (λ (x : ℕ). elem x (path j)) (path i)) FFFF
+
+  -- depth of a job's top
+  unfoldable pub topDepth : ℕ → ℕ
+  topDepth j = depth (tb .parents) (top tb j)
+
+  -- the first leaf of a job's bottom
+  unfoldable pub bottomLeaf : ℕ → ℕ
+  bottomLeaf j = firstLeaf (tb .parents) (bottom tb j)
+
+-- 5, a top or bottom that is no layout; 6, a bottom not at or below its top
+unfoldable pub jobVerdict : List ℕ → ℕ → ℕ → ℕ → Verdict
+jobVerdict ps t b place =
+    refuseIf (leb (length ps) t || leb (length ps) b) 5 place then refuseIf (not (above ps t b)) 6 place

@@ -1,0 +1,16 @@
+-- What document 01 says, as definitions: read these files beside it, in this order.
+pub mod Lists
+pub mod Verdict
+pub mod Tree
+pub mod Jobs
+pub mod Order
+pub mod Greedy
+pub mod Visits
+pub mod Rival
+pub mod Planning
+pub mod Table
+pub mod Output
+pub mod Stretch
+pub mod Answers
+pub mod Outcomes
+pub mod Examples

@@ -1,0 +1,82 @@
+-- Plain functions on lists of numbers that the other definitions are written in. Nothing here is of document 01.
+-- Assumes nothing.
+use Prim.Native.Nat.{ℕ, zero, suc, _+_}
+use mathlib.Core.Bool.{Bool, true, false, cond, not, _&&_, _||_}
+use mathlib.Core.Option.{Option, none, some}
+use mathlib.Core.List.{List, [], _∷_, _++_}
+use lib.Dec.{eqb}
+
+-- the numbers from a on, n of them
+unfoldable pub numbersFrom : ℕ → ℕ → List ℕ
+numbersFrom a zero = []
+numbersFrom a (suc n) = a ∷ numbersFrom (suc a) n
+
+-- the numbers below n
+unfoldable pub numbers : ℕ → List ℕ
+numbers n = numbersFrom 0 n
+
+-- x stands in the list
+unfoldable pub elem : ℕ → List ℕ → Bool
+elem x [] = false
+elem x (y ∷ ys) = eqb x y || elem x ys
+
+-- the place at which x first stands in the list, or the list's length
+unfoldable pub indexOf : ℕ → List ℕ → ℕ
+indexOf x [] = 0
+indexOf x (y ∷ ys) = cond (eqb x y) 0 (suc (indexOf x ys))
+
+-- the last of a list, or d where it is empty
+unfoldable pub lastD : List ℕ → ℕ → ℕ
+lastD [] d = d
+lastD (x ∷ xs) d = lastD xs x
+
+module _ {ℓ} {A : Type ℓ} where
+  -- some member passes the test
+  unfoldable pub any : (A → Bool) → List A → Bool
+  any p [] = false
+  any p (x ∷ xs) = p x || any p xs
+
+  -- every member passes the test
+  unfoldable pub all : (A → Bool) → List A → Bool
+  all p [] = true
+  all p (x ∷ xs) = p x && all p xs
+
+  -- the members that pass the test, in order
+  unfoldable pub select : (A → Bool) → List A → List A
+  select p [] = []
+  select p (x ∷ xs) = cond (p x) (x ∷ select p xs) (select p xs)
+
+  -- how many members pass the test
+  unfoldable pub count : (A → Bool) → List A → ℕ
+  count p [] = 0
+  count p (x ∷ xs) = cond (p x) (suc (count p xs)) (count p xs)
+
+  -- the first member that passes the test
+  unfoldable pub find : (A → Bool) → List A → Option A
+  find p [] = none
+  find p (x ∷ xs) = cond (p x) (some x) (find p xs)
+
+  -- the numbers that f gives for the members, added up
+  unfoldable pub total : (A → ℕ) → List A → ℕ
+  total f [] = 0
+  total f (x ∷ xs) = f x + total f xs
+
+  -- x in front of the first member that it comes before
+  unfoldable pub insertBy : (A → A → Bool) → A → List A → List A
+  insertBy before x [] = x ∷ []
+  insertBy before x (y ∷ ys) = cond (before x y) (x ∷ y ∷ ys) (y ∷ insertBy before x ys)
+
+  -- the members in the order that `before` tells
+  unfoldable pub sortBy : (A → A → Bool) → List A → List A
+  sortBy before [] = []
+  sortBy before (x ∷ xs) = insertBy before x (sortBy before xs)
+
+  -- every member has the property
+  abbrev pub All : (A → Type 0) → List A → Type 0
+  All P [] = Unit {0}
+  All P (x ∷ xs) = P x × All P xs
+
+  -- the relation holds of every member and each later one
+  abbrev pub Pairwise : (A → A → Type 0) → List A → Type 0
+  Pairwise R [] = Unit {0}
+  Pairwise R (x ∷ xs) = All (R x) xs × Pairwise R xs

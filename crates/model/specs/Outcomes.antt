@@ -1,0 +1,36 @@
+-- The full outcome of each public operation: the answer, and each lent buffer as the call leaves it (marked ′).
+-- Assumes nothing.
+use Prim.Native.Nat.{ℕ}
+use mathlib.Core.Path.{_≡_}
+use mathlib.Core.List.{List, []}
+use lib.ListN.{length}
+use Rattle.model.specs.Verdict.{Verdict, answer}
+use Rattle.model.specs.Tree.{FFFF, depth, firstLeaf, lastLeaf, settleVerdict, settledCells}
+use Rattle.model.specs.Jobs.{Table}
+use Rattle.model.specs.Table.{Reading, readTable, tableRead, buffersVerdict, readAnswer, readCells}
+use Rattle.model.specs.Answers.{settledAnswer, tableAnswer}
+use Rattle.model.specs.declared.Settled.{Settled}
+use Rattle.model.specs.declared.TableRead.{TableRead}
+
+-- *Settle layouts* under its verdict v: depth, first leaf and last leaf of each layout
+pub record SettledAs (v : Verdict) (parents depths firsts lasts : List ℕ) (r : Settled) (depths′ firsts′ lasts′ : List ℕ) : Type 0 where
+  pub answered : settledAnswer r ≡ answer v []
+  pub depths-hold : depths′ ≡ settledCells v (depth parents) parents depths
+  pub firsts-hold : firsts′ ≡ settledCells v (firstLeaf parents) parents firsts
+  pub lasts-hold : lasts′ ≡ settledCells v (lastLeaf parents) parents lasts
+
+abbrev pub SettleOutcome : List ℕ → List ℕ → List ℕ → List ℕ → Settled → List ℕ → List ℕ → List ℕ → Type 0
+SettleOutcome parents depths firsts lasts =
+    SettledAs (settleVerdict parents (length depths) (length firsts) (length lasts)) parents depths firsts lasts
+
+-- *Read a table* under the verdict v on the buffers' sizes, for the reading t of the bytes: N and M, and the table in the buffers
+pub record ReadAs (v : Verdict) (t : Reading) (parents tops bottoms marks : List ℕ) (r : TableRead) (parents′ tops′ bottoms′ marks′ : List ℕ) : Type 0 where
+  pub answered : tableAnswer r ≡ readAnswer v t
+  pub parents-hold : parents′ ≡ readCells v FFFF parents (tableRead t .parents)
+  pub tops-hold : tops′ ≡ readCells v FFFF tops (tableRead t .tops)
+  pub bottoms-hold : bottoms′ ≡ readCells v FFFF bottoms (tableRead t .bottoms)
+  pub marks-hold : marks′ ≡ readCells v 0 marks (tableRead t .marks)
+
+abbrev pub ReadOutcome : List ℕ → List ℕ → List ℕ → List ℕ → List ℕ → TableRead → List ℕ → List ℕ → List ℕ → List ℕ → Type 0
+ReadOutcome bytes parents tops bottoms marks =
+    ReadAs (buffersVerdict (length parents) (length tops) (length bottoms) (length marks)) (readTable bytes) parents tops bottoms marks

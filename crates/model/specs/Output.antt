@@ -1,0 +1,67 @@
+-- The plan's lines and the whole run (document 01, "The plan", and *Whole run* of "What each operation turns away").
+-- Assumes nothing.
+use Prim.Native.Nat.{ℕ, zero, suc, _+_, _/_, _%_}
+use mathlib.Core.Bool.{cond}
+use mathlib.Core.List.{List, [], _∷_, _++_, flatMap}
+use lib.ListN.{length}
+use lib.Dec.{ltb}
+use Rattle.model.specs.Verdict.{Verdict, refuseIf, lent, padded}
+use Rattle.model.specs.Jobs.{Table}
+use Rattle.model.specs.Greedy.{Pass, pair, single, passes}
+use Rattle.model.specs.Visits.{cellCount}
+use Rattle.model.specs.Planning.{printed, pairs, singles}
+use Rattle.model.specs.Table.{Reading, read, stopped, readTable}
+
+unfoldable pub digit : ℕ → ℕ
+digit d = cond (ltb d 10) (48 + d) (55 + d)
+
+-- n in k digits
+unfoldable pub hex : ℕ → ℕ → List ℕ
+hex zero n = []
+hex (suc k) n = hex k (n / 16) ++ digit (n % 16) ∷ []
+
+-- a line's digits and its 0A
+abbrev pub line : List ℕ → List ℕ
+line digits = digits ++ 10 ∷ []
+
+-- 11 I J L, or 12 I
+unfoldable pub passLine : Table → Pass → List ℕ
+passLine tb (pair i j) = line (hex 2 0x11 ++ (hex 4 i ++ (hex 4 j ++ hex 4 (printed tb i))))
+passLine tb (single i) = line (hex 2 0x12 ++ hex 4 i)
+
+-- 1F: pairs, singles, cell count
+unfoldable pub totalsLine : Table → List ℕ
+totalsLine tb = line (hex 2 0x1F ++ (hex 4 (pairs tb) ++ (hex 4 (singles tb) ++ hex 8 (cellCount tb))))
+
+-- one line a pass, ordered by the earlier place in it, and the totals
+unfoldable pub planBytes : Table → List ℕ
+planBytes tb = flatMap (passLine tb) (passes tb) ++ totalsLine tb
+
+-- 1E, the number in two digits, the place in four
+unfoldable pub refusalBytes : ℕ → ℕ → List ℕ
+refusalBytes number place = line (hex 2 0x1E ++ (hex 2 number ++ hex 4 place))
+
+-- what is printed for a reading
+unfoldable pub readingBytes : Reading → List ℕ
+readingBytes (read tb) = planBytes tb
+readingBytes (stopped number place) = refusalBytes number place
+
+-- what the whole run prints for a table's bytes
+unfoldable pub runBytes : List ℕ → List ℕ
+runBytes bytes = readingBytes (readTable bytes)
+
+-- bytes of output that the whole run needs
+abbrev pub outputBytes : ℕ
+outputBytes = 32768
+
+-- 8: output below 32,768 bytes
+unfoldable pub outputVerdict : ℕ → Verdict
+outputVerdict n = refuseIf (ltb n outputBytes) 8 0
+
+-- the length that the whole run answers
+unfoldable pub runLength : List ℕ → List ℕ → ℕ
+runLength bytes output = cond (ltb (length output) outputBytes) 0 (length (runBytes bytes))
+
+-- the output afterwards: nothing changed after refusal 8, else bytes past the length are 0
+unfoldable pub runOutput : List ℕ → List ℕ → List ℕ
+runOutput bytes output = lent (outputVerdict (length output)) output (padded (length output) 0 (runBytes bytes))

@@ -1,0 +1,74 @@
+-- What *Plan* turns away and what it gives back (document 01, "What each operation turns away").
+-- Assumes nothing.
+use Prim.Native.Nat.{ℕ, _+_, _-_}
+use mathlib.Core.Bool.{Bool, cond, not, _||_}
+use mathlib.Core.List.{List, [], _∷_, map, foldr}
+use lib.ListN.{length, getD}
+use lib.Dec.{eqb, ltb}
+use Rattle.model.specs.Lists.{numbers, total}
+use Rattle.model.specs.Verdict.{Verdict, accepted, refuseIf, _then_}
+use Rattle.model.specs.Tree.{FFFF, layoutLimit, treeVerdict}
+use Rattle.model.specs.Jobs.{Table, jobs, jobLimit, top, bottom, jobVerdict, deepestShared}
+use Rattle.model.specs.Greedy.{Pass, pair, single, passes}
+
+-- work cells that *Plan* needs
+abbrev pub workCells : ℕ
+workCells = 32768
+
+-- 8: tops, bottoms and marks of unequal length, a result shorter than tops, or too few work cells
+unfoldable pub lentVerdict : Table → ℕ → ℕ → ℕ → Verdict
+lentVerdict tb partners layouts work =
+    refuseIf
+    (not (eqb (jobs tb) (length (tb .bottoms)))
+    || not (eqb (jobs tb) (length (tb .marks)))
+    || ltb partners (jobs tb)
+    || ltb layouts (jobs tb)
+    || ltb work workCells)
+    8 0
+
+-- by job number 5 and 6, the smallest job first
+unfoldable pub jobsVerdict : Table → Verdict
+jobsVerdict tb =
+    foldr _then_ accepted
+    (map (λ (j : ℕ). jobVerdict (tb .parents) (top tb j) (bottom tb j) j) (numbers (jobs tb)))
+
+-- the verdict of *Plan*, given the lengths of the results and of the work cells
+unfoldable pub planVerdict : Table → ℕ → ℕ → ℕ → Verdict
+planVerdict tb partners layouts work =
+    lentVerdict tb partners layouts work
+    then refuseIf (ltb layoutLimit (length (tb .parents)) || ltb jobLimit (jobs tb)) 3 0
+    then treeVerdict (tb .parents)
+    then jobsVerdict tb
+
+-- the partner of j in the passes, or FFFF
+unfoldable pub partnerIn : List Pass → ℕ → ℕ
+partnerIn [] j = FFFF
+partnerIn (single i ∷ ps) j = partnerIn ps j
+partnerIn (pair i k ∷ ps) j = cond (eqb i j) k (cond (eqb k j) i (partnerIn ps j))
+
+-- two in a pair, one alone
+unfoldable pub pairCount : Pass → ℕ
+pairCount (pair i j) = 1
+pairCount (single i) = 0
+
+unfoldable pub singleCount : Pass → ℕ
+singleCount (pair i j) = 0
+singleCount (single i) = 1
+
+module _ (tb : Table) where
+  -- at its own number each job's partner, FFFF for none
+  unfoldable pub partners : List ℕ
+  partners = map (partnerIn (passes tb)) (numbers (jobs tb))
+
+  -- the layout that j's pass prints, FFFF where it has no partner
+  unfoldable pub printed : ℕ → ℕ
+  printed j = cond (eqb (partnerIn (passes tb) j) FFFF) FFFF (deepestShared tb j (partnerIn (passes tb) j))
+
+  unfoldable pub layouts : List ℕ
+  layouts = map printed (numbers (jobs tb))
+
+  unfoldable pub pairs : ℕ
+  pairs = total pairCount (passes tb)
+
+  unfoldable pub singles : ℕ
+  singles = total singleCount (passes tb)

@@ -1,0 +1,53 @@
+-- Rival plans and the cut (document 01). A plan is here a set of pairs of job numbers: a matching.
+-- Assumes nothing.
+use Prim.Native.Nat.{ℕ, _<_}
+use mathlib.Core.Path.{_≡_}
+use mathlib.Core.Logic.{_≢_}
+use mathlib.Core.Bool.{Bool, cond, not, _&&_}
+use mathlib.Core.List.{List, [], _∷_, map}
+use lib.ListN.{getD}
+use lib.Dec.{T, ltb}
+use Rattle.model.specs.Lists.{numbers, All, Pairwise, count, select}
+use Rattle.model.specs.Tree.{FFFF}
+use Rattle.model.specs.Jobs.{Table, jobs, solo, shares}
+use Rattle.model.specs.Order.{place}
+
+-- two job numbers
+pub record Pair : Type 0 where
+  pub one : ℕ
+  pub other : ℕ
+
+-- no job stands in both
+pub record Disjoint (p q : Pair) : Type 0 where
+  pub one-one : p .one ≢ q .one
+  pub one-other : p .one ≢ q .other
+  pub other-one : p .other ≢ q .one
+  pub other-other : p .other ≢ q .other
+
+-- the rules of a pair: two different jobs of the table, neither solo, that share
+pub record Rules (tb : Table) (p : Pair) : Type 0 where
+  pub one-known : p .one < jobs tb
+  pub other-known : p .other < jobs tb
+  pub differ : p .one ≢ p .other
+  pub one-not-solo : T (not (solo tb (p .one)))
+  pub other-not-solo : T (not (solo tb (p .other)))
+  pub share : T (shares tb (p .one) (p .other))
+
+-- a rival plan: pairs that keep the rules, no job in two of them
+pub record Rival (tb : Table) (ps : List Pair) : Type 0 where
+  pub keep : All (Rules tb) ps
+  pub once : Pairwise Disjoint ps
+
+-- both places are below m
+unfoldable pub inFront : Table → ℕ → Pair → Bool
+inFront tb m p = ltb (place tb (p .one)) m && ltb (place tb (p .other)) m
+
+-- how many of the pairs lie in front of cut m
+unfoldable pub pairsInFront : Table → ℕ → List Pair → ℕ
+pairsInFront tb m ps = count (inFront tb m) ps
+
+-- the pairs of a partner buffer: I and J, both below m, are a pair if cell I holds J; each once, by its smaller number
+unfoldable pub pairsOf : ℕ → List ℕ → List Pair
+pairsOf m partners =
+    map (λ (i : ℕ). record { one = i; other = getD partners i FFFF })
+    (select (λ (i : ℕ). ltb i (getD partners i FFFF) && ltb (getD partners i FFFF) m) (numbers m))

@@ -1,0 +1,55 @@
+-- The visits of a lookup (document 01, "The shelf and its cells"). The shelf is a segment tree, a cell one of its nodes.
+-- Assumes nothing.
+use Prim.Native.Nat.{ℕ, zero, suc, _+_, _^_}
+use mathlib.Core.Bool.{Bool, cond, not, _||_, _&&_}
+use mathlib.Core.List.{List}
+use lib.Dec.{leb, ltb}
+use Rattle.model.specs.Lists.{numbers, count, total}
+use Rattle.model.specs.Tree.{firstLeaf, lastLeaf}
+use Rattle.model.specs.Jobs.{Table, jobs, top, solo, bottomLeaf}
+use Rattle.model.specs.Greedy.{Pass, pair, single, passes}
+
+-- the smallest k from k on with m ≤ 2 ^ k, in n steps
+unfoldable pub levelsFrom : ℕ → ℕ → ℕ → ℕ
+levelsFrom zero k m = k
+levelsFrom (suc n) k m = cond (leb m (2 ^ k)) k (levelsFrom n (suc k) m)
+
+-- k, where W = 2 ^ k is the smallest power of two that is at least m and at least 1
+unfoldable pub levels : ℕ → ℕ
+levels m = levelsFrom m 0 m
+
+-- the cell of 2 ^ k slots from `from` on lies wholly inside the slots from `lo` up to `hi`, or wholly outside them
+abbrev pub settledCell : ℕ → ℕ → ℕ → ℕ → Bool
+settledCell k from lo hi = leb lo from && leb (from + 2 ^ k) hi || (leb hi from || leb (from + 2 ^ k) lo)
+
+-- the visits at and under that cell: one wholly inside or wholly outside ends there, otherwise both halves are visited
+unfoldable pub cellVisits : ℕ → ℕ → ℕ → ℕ → ℕ
+cellVisits zero from lo hi = 1
+cellVisits (suc k) from lo hi =
+    cond (settledCell (suc k) from lo hi) 1 (1 + (cellVisits k from lo hi + cellVisits k (from + 2 ^ k) lo hi))
+
+-- the visits of a lookup, of 2 ^ k slots, for those from `lo` up to `hi`. An empty span ends at the topmost cell
+unfoldable pub visits : ℕ → ℕ → ℕ → ℕ
+visits k lo hi = cond (leb hi lo) 1 (cellVisits k 0 lo hi)
+
+module _ (tb : Table) where
+  -- the slots whose first leaf lies in the leaf span of the job's top: those from `askedFrom` up to `askedTo`, as many as lie left of
+  -- the span's end, without those left of its start
+  unfoldable pub askedFrom : ℕ → ℕ
+  askedFrom i = count (λ (j : ℕ). ltb (bottomLeaf tb j) (firstLeaf (tb .parents) (top tb i))) (numbers (jobs tb))
+
+  unfoldable pub askedTo : ℕ → ℕ
+  askedTo i = count (λ (j : ℕ). leb (bottomLeaf tb j) (lastLeaf (tb .parents) (top tb i))) (numbers (jobs tb))
+
+  -- the visits of the job's lookup; a solo job has none
+  unfoldable pub lookupVisits : ℕ → ℕ
+  lookupVisits i = cond (solo tb i) 0 (visits (levels (jobs tb)) (askedFrom i) (askedTo i))
+
+  -- the job that is free at its turn in a pass
+  unfoldable pub passVisits : Pass → ℕ
+  passVisits (pair i j) = lookupVisits i
+  passVisits (single i) = lookupVisits i
+
+  -- the cell count of the plan: one lookup for each non-solo job still free at its turn
+  unfoldable pub cellCount : ℕ
+  cellCount = total passVisits (passes tb)

@@ -1,0 +1,61 @@
+// The numbers and answers that every part of the planner speaks in, and, in specs/, what document 01 says of them.
+
+// What stands for no layout and no job: FFFF in the table and in every lent buffer.
+pub const ABSENT: u16 = 0xFFFF;
+
+// The number of a layout, a node of the tree.
+pub struct LayoutNumber(pub u16);
+
+impl LayoutNumber {
+    // At most 1,024 layouts.
+    pub const LIMIT: usize = 1024;
+}
+
+// The number of a job, a downward path in the tree.
+pub struct JobNumber(pub u16);
+
+impl JobNumber {
+    // At most 4,096 jobs; no jobs is allowed.
+    pub const LIMIT: usize = 4096;
+}
+
+// A place in the running order (000: a position in the bottom-up enumeration).
+pub struct Rank(pub u16);
+
+// Why an input is turned away: document 01's number, and the place.
+pub struct Refusal {
+    pub number: u16,
+    pub place: u16,
+}
+
+// One line of the table.
+pub enum Frame {
+    Layout(LayoutNumber),
+    Job(LayoutNumber, LayoutNumber),
+    Solo(LayoutNumber, LayoutNumber),
+    End(u16, u16),
+}
+
+// What reading a line answers.
+pub enum FrameRead {
+    Read(Frame),
+    Refused(Refusal),
+}
+
+// What settling the layouts answers.
+pub enum Settled {
+    Done,
+    Refused(Refusal),
+}
+
+// How many layouts and jobs a table has.
+pub struct Counts {
+    pub layouts: u16,
+    pub jobs: u16,
+}
+
+// What reading a table answers.
+pub enum TableRead {
+    Read(Counts),
+    Refused(Refusal),
+}

@@ -1,0 +1,6 @@
+pub mod Laws
+pub mod Stamps
+pub mod Links
+pub mod Depths
+pub mod Walk
+pub mod Outcome

@@ -1,0 +1,85 @@
+use borrow.Author.Needs.{needs}
+use native.Mathlib.Omega.{arith}
+use Prim.Native.Nat.{_≤_, _-_}
+use mathlib.Core.Path.{_≡_, refl, sym, _∙_}
+use borrow.Author.Tests.{not-true, not-false}
+use lib.ListN.{length, drop}
+use Rattle.model.specs.Tree.{layoutsFrom}
+use Rattle.settle.proofs.Laws.{layouts-right, layouts-wrong, layouts-end}
+use Rattle.settle.proofs.first_wrong.Statement.{statement}
+use Rattle.settle.proofs.first_wrong.Tie as tie
+use Rattle.settle.proofs.first_wrong.Reads as reads
+use Rattle.settle.proofs.first_wrong.Lts as lts
+use Rattle.settle.proofs.right_parent.Reads as right-parent-reads
+
+abbrev Inv-loop : tie.InvT-loop
+Inv-loop parents x₀ x = (x ≤ length parents) × (layoutsFrom 0 parents ≡ layoutsFrom x (drop x parents))
+
+abbrev μ-loop : tie.MeasureT-loop
+μ-loop parents x₀ x = length parents - x
+
+-- src/lib.rt:26:5
+loop-holds : tie.Need-loop-holds Inv-loop μ-loop
+loop-holds c = (search needs, refl)
+
+-- src/lib.rt:27:29
+mul-right-parent : tie.Need-mul-right-parent Inv-loop μ-loop
+mul-right-parent c = search needs
+
+-- src/lib.rt:27:29
+shared-slice-read-right-parent : tie.Need-shared-slice-read-right-parent Inv-loop μ-loop
+shared-slice-read-right-parent c = search needs
+
+-- src/lib.rt:27:13
+right-parent-requires : tie.Need-right-parent-requires Inv-loop μ-loop
+right-parent-requires c κs = search needs
+
+-- src/lib.rt:28:13
+returns : tie.Need-returns Inv-loop μ-loop
+returns c =
+    record {
+      within = omega arith;
+      verdict =
+          c .before .before .before .before .loop .inv .1
+          ∙ layouts-wrong _ _ (c .before .before .before .loop-test .taken) (sym (c .before .right-parent .ensures) ∙ not-true _ (c .if1 .taken));
+    }
+
+-- src/lib.rt:30:9
+add-x : tie.Need-add-x Inv-loop μ-loop
+add-x c = search needs
+
+-- src/lib.rt:26:5
+loop-less : tie.Need-loop-less Inv-loop μ-loop
+loop-less c = search needs
+
+-- src/lib.rt:26:5
+loop-again : tie.Need-loop-again Inv-loop μ-loop
+loop-again c = (
+  search needs,
+  c .before .before .before .before .loop .inv .1
+      ∙ layouts-right _ _ (c .before .before .before .loop-test .taken) (sym (c .before .right-parent .ensures) ∙ not-false _ (c .if1 .left)),
+)
+
+-- src/lib.rt:22:1
+returns-2 : tie.Need-returns-2 Inv-loop μ-loop
+returns-2 c =
+    record {
+      within = omega arith;
+      verdict = c .before .loop .inv .1 ∙ layouts-end _ _ (c .before .loop .inv .0) (c .loop-test .left);
+    }
+
+pub first-wrong-spec : {M : Type 1} → statement M
+first-wrong-spec =
+    tie.close
+    (tie.spec
+    Inv-loop
+    μ-loop
+    loop-holds
+    mul-right-parent
+    shared-slice-read-right-parent
+    right-parent-requires
+    returns
+    add-x
+    loop-less
+    loop-again
+    returns-2)

@@ -1,0 +1,167 @@
+// Depth, first leaf and last leaf of each layout (document 01, "Settle layouts").
+use model::LayoutNumber;
+use model::Refusal;
+use model::Settled;
+ghost use mathlib.Core.Path.{_≡_};
+ghost use Prim.Native.Nat.{ℕ, _+_, _<_, _≤_};
+ghost use lib.ListN.{length, getD};
+ghost use lib.Dec.{ltb};
+ghost use Rattle.model.specs.Verdict.{refuses};
+ghost use Rattle.model.specs.Tree.{rightParent, depth};
+ghost use Rattle.model.specs.Answers.{settledAnswer};
+ghost use Rattle.model.specs.Outcomes.{SettleOutcome};
+ghost use Rattle.tree.specs.WellFormed.{Tree};
+ghost use Rattle.settle.specs.Numbering.{FirstWrong, Unlinked, Linked, Stamped, Numberable, Numbered, atOrBelow, strictlyBelow};
+
+// Whether p can be the parent of layout x: FFFF for layout 0, else a smaller number.
+fn right_parent(x: usize, p: u16) -> bool
+    ensures { λ r. ⌜ r ≡ rightParent x p ⌝ }
+{
+    if x == 0 {
+        return p == 65535;
+    }
+    (p as usize) < x
+}
+
+// The first layout whose parent is wrong, or how many layouts there are.
+fn first_wrong(parents: &[u16]) -> usize
+    ensures { λ r. ⌜ FirstWrong (now (parents .entry)) r ⌝ }
+{
+    let mut x = 0;
+    while x < parents.len() {
+        if !right_parent(x, parents[x]) {
+            return x;
+        }
+        x += 1;
+    }
+    x
+}
+
+// Sets the depth of each layout: one more than its parent's, which has a smaller number and is set already.
+fn set_depths(parents: &[u16], depths: &mut [u16])
+    requires { ⌜ Tree (now parents) ⌝ }
+    requires { ⌜ length (now parents) ≤ length (now depths) ⌝ }
+    ensures { λ r. ⌜ Stamped (λ (y : ℕ). ltb y (length (now (parents .entry)))) (depth (now (parents .entry))) (now (depths .entry)) (now (depths .exit)) ⌝ }
+{
+    depths[0] = 0;
+    let mut x = 1;
+    while x < parents.len() {
+        let p = parents[x] as usize;
+        depths[x] = depths[p] + 1;
+        x += 1;
+    }
+}
+
+// Links each layout to its first child and each child to its next sibling, from the last layout down.
+fn link_children(parents: &[u16], child: &mut [u16], sibling: &mut [u16])
+    requires { ⌜ Tree (now parents) ⌝ }
+    requires { ⌜ Unlinked (now parents) (now child) (now sibling) ⌝ }
+    ensures { λ r. ⌜ Linked (now (parents .entry)) (now (child .exit)) (now (sibling .exit)) ⌝ }
+{
+    let mut y = parents.len();
+    while 1 < y {
+        y -= 1;
+        let p = parents[y] as usize;
+        sibling[y] = child[p];
+        child[p] = y as u16;
+    }
+}
+
+// Numbers the leaves of x and of all below it from `next` on, and answers the number after its last.
+fn number(
+    parents: &[u16],
+    child: &[u16],
+    sibling: &[u16],
+    x: LayoutNumber,
+    next: u16,
+    firsts: &mut [u16],
+    lasts: &mut [u16],
+) -> u16
+    requires { ⌜ Numberable (now parents) (now child) (now sibling) (x .0) next (now firsts) (now lasts) ⌝ }
+    ensures { λ r. ⌜ Numbered (now (parents .entry)) (atOrBelow (now (parents .entry)) (x .0)) (x .0) (now (firsts .entry)) (now (lasts .entry)) r (now (firsts .exit)) (now (lasts .exit)) ⌝ }
+{
+    let at = x.0 as usize;
+    firsts[at] = next;
+    let after = number_children(parents, child, sibling, x, next, firsts, lasts);
+    lasts[at] = after - 1;
+    after
+}
+
+// The same for all below x: its children's leaves, child by child; a layout with no children is a leaf.
+fn number_children(
+    parents: &[u16],
+    child: &[u16],
+    sibling: &[u16],
+    x: LayoutNumber,
+    next: u16,
+    firsts: &mut [u16],
+    lasts: &mut [u16],
+) -> u16
+    requires { ⌜ Numberable (now parents) (now child) (now sibling) (x .0) next (now firsts) (now lasts) ⌝ }
+    ensures { λ r. ⌜ Numbered (now (parents .entry)) (strictlyBelow (now (parents .entry)) (x .0)) (x .0) (now (firsts .entry)) (now (lasts .entry)) r (now (firsts .exit)) (now (lasts .exit)) ⌝ }
+{
+    let at = x.0 as usize;
+    let mut c = child[at];
+    if c == model::ABSENT {
+        return next + 1;
+    }
+    let mut after = next;
+    while c != model::ABSENT {
+        after = number(
+            parents,
+            child,
+            sibling,
+            LayoutNumber(c),
+            after,
+            firsts,
+            lasts,
+        );
+        let here = c as usize;
+        c = sibling[here];
+    }
+    after
+}
+
+// The refusal of a call, with nothing written.
+fn refuse(number: u16, place: u16) -> Settled
+    ensures { λ r. ⌜ settledAnswer r ≡ refuses number place ⌝ }
+{
+    Settled::Refused(Refusal { number, place })
+}
+
+// Depth, first leaf and last leaf of each layout, or one refusal.
+pub fn settle_layouts(
+    parents: &[u16],
+    depths: &mut [u16],
+    firsts: &mut [u16],
+    lasts: &mut [u16],
+) -> Settled
+    ensures { λ r. ⌜ SettleOutcome (now (parents .entry)) (now (depths .entry)) (now (firsts .entry)) (now (lasts .entry)) r (now (depths .exit)) (now (firsts .exit)) (now (lasts .exit)) ⌝ }
+{
+    let count = parents.len();
+    if depths.len() < count {
+        return refuse(8, 0);
+    }
+    if firsts.len() < count {
+        return refuse(8, 0);
+    }
+    if lasts.len() < count {
+        return refuse(8, 0);
+    }
+    if LayoutNumber::LIMIT < count {
+        return refuse(3, 0);
+    }
+    if count == 0 {
+        return refuse(4, 0);
+    }
+    let wrong = first_wrong(parents);
+    if wrong < count {
+        return refuse(4, wrong as u16);
+    }
+    set_depths(parents, depths);
+    let mut child = [model::ABSENT; LayoutNumber::LIMIT];
+    let mut sibling = [model::ABSENT; LayoutNumber::LIMIT];
+    link_children(parents, &mut child, &mut sibling);
+    number(parents, &child, &sibling, LayoutNumber(0), 0, firsts, lasts);
+    Settled::Done
+}

@@ -1,0 +1,3 @@
+pub mod StretchLaws
+pub mod StretchPaths
+pub mod SharedLayouts

@@ -1,0 +1,220 @@
+-- Laws of the shared stretch: a place is the first, an agreement the longest, and the stretch fits the list that it begins and agrees with
+-- the other. Assumes nothing.
+use Prim.Native.Nat.{ℕ, zero, suc, _+_, _≤_, _<_, min, zero-le, suc-le-suc}
+use native.Mathlib.Nat.{le-of-suc-le-suc, not-suc-le-zero, min-le-right}
+use native.Mathlib.Omega.{arith}
+use mathlib.Core.Path.{_≡_, refl, sym, ap, _∙_, subst}
+use mathlib.Core.Logic.{_⊎_, inl, inr, ⊎-elim}
+use mathlib.Core.List.{List, [], _∷_}
+use mathlib.Core.Bool.{Bool, true, false, cond}
+use lib.ListN.{length, getD, take, drop, drop-of-length-le, length-take, length-drop}
+use lib.Seq.{getD-drop, getD-take, drop-cons, length-take-le}
+use lib.Dec.{ltb, eqb}
+use borrow.Author.Tests.{eqb-true, eqb-false, eq-eqb, ne-eqb, lt-ltb, ltb-true, ltb-false}
+use Rattle.model.specs.Stretch.{agreement, startsIn, leading, Stretch, ofFirst, ofSecond, stretchOf, lengthOf, begun}
+use Rattle.model.specs.Lists.{indexOf}
+
+-- two numbers are the same or not
+same-or-not : (x y : ℕ) → (x ≡ y) ⊎ (x ≡ y → ⊥)
+same-or-not x y = by (eqb x y) refl
+  where
+    by : (b : Bool) → eqb x y ≡ b → (x ≡ y) ⊎ (x ≡ y → ⊥)
+    by true e = inl (eqb-true x y e)
+    by false e = inr (eqb-false x y e)
+
+-- ---- a place
+
+pub indexOf-here : (x y : ℕ) (ys : List ℕ) → y ≡ x → indexOf x (y ∷ ys) ≡ 0
+unfolding indexOf
+indexOf-here x y ys e = rw (eq-eqb x y (sym e))
+
+pub indexOf-later : (x y : ℕ) (ys : List ℕ) → (y ≡ x → ⊥) → indexOf x (y ∷ ys) ≡ suc (indexOf x ys)
+unfolding indexOf
+indexOf-later x y ys e = rw (ne-eqb x y (λ q. e (sym q)))
+
+-- a place is at most the length
+pub indexOf-le : (x : ℕ) (ys : List ℕ) → indexOf x ys ≤ length ys
+unfolding indexOf
+indexOf-le x [] = zero-le
+indexOf-le x (y ∷ ys) =
+    ⊎-elim (λ e. rw (indexOf-here x y ys e) zero-le) (λ n. rw (indexOf-later x y ys n) (suc-le-suc (indexOf-le x ys))) (same-or-not y x)
+
+-- x stands at its place
+pub indexOf-stands : (x : ℕ) (ys : List ℕ) → indexOf x ys < length ys → getD ys (indexOf x ys) 0 ≡ x
+unfolding indexOf
+indexOf-stands x [] h = absurd (not-suc-le-zero h)
+indexOf-stands x (y ∷ ys) h =
+    ⊎-elim (λ e. rw (indexOf-here x y ys e) e)
+    (λ n. rw (indexOf-later x y ys n) (indexOf-stands x ys (le-of-suc-le-suc (rw (indexOf-later x y ys n) at h))))
+    (same-or-not y x)
+
+-- and nowhere before it
+pub indexOf-first : (x : ℕ) (ys : List ℕ) (k : ℕ) → k < indexOf x ys → getD ys k 0 ≡ x → ⊥
+unfolding indexOf
+indexOf-first x [] k h e = not-suc-le-zero h
+indexOf-first x (y ∷ ys) zero h e = not-suc-le-zero (rw (indexOf-here x y ys e) at h)
+indexOf-first x (y ∷ ys) (suc k) h e =
+    ⊎-elim (λ s. not-suc-le-zero (rw (indexOf-here x y ys s) at h))
+    (λ n. indexOf-first x ys k (le-of-suc-le-suc (rw (indexOf-later x y ys n) at h)) e)
+    (same-or-not y x)
+
+-- ---- an agreement
+
+pub agreement-same : (x y : ℕ) (xs ys : List ℕ) → x ≡ y → agreement (x ∷ xs) (y ∷ ys) ≡ suc (agreement xs ys)
+unfolding agreement
+agreement-same x y xs ys e = rw (eq-eqb x y e)
+
+pub agreement-differs : (x y : ℕ) (xs ys : List ℕ) → (x ≡ y → ⊥) → agreement (x ∷ xs) (y ∷ ys) ≡ 0
+unfolding agreement
+agreement-differs x y xs ys e = rw (ne-eqb x y e)
+
+pub agreement-nil : (xs : List ℕ) → agreement xs [] ≡ 0
+unfolding agreement
+agreement-nil [] = refl
+agreement-nil (x ∷ xs) = refl
+
+-- an agreement fits the first list
+pub agreement-le : (xs ys : List ℕ) → agreement xs ys ≤ length xs
+unfolding agreement
+agreement-le [] ys = zero-le
+agreement-le (x ∷ xs) [] = zero-le
+agreement-le (x ∷ xs) (y ∷ ys) =
+    ⊎-elim (λ e. rw (agreement-same x y xs ys e) (suc-le-suc (agreement-le xs ys))) (λ n. rw (agreement-differs x y xs ys n) zero-le)
+    (same-or-not x y)
+
+-- the leading part of its length is the same in both
+pub agreement-shared : (xs ys : List ℕ) → take (agreement xs ys) xs ≡ take (agreement xs ys) ys
+unfolding agreement
+agreement-shared [] ys = refl
+agreement-shared (x ∷ xs) [] = refl
+agreement-shared (x ∷ xs) (y ∷ ys) =
+    ⊎-elim (λ e. rw (agreement-same x y xs ys e) (cc (e, agreement-shared xs ys))) (λ n. rw (agreement-differs x y xs ys n)) (same-or-not x y)
+
+-- an agreement fits the second list
+pub agreement-le-second : (xs ys : List ℕ) → agreement xs ys ≤ length ys
+agreement-le-second xs ys =
+    let count : agreement xs ys ≡ min (agreement xs ys) (length ys) =
+    sym (length-take-le (agreement xs ys) xs (agreement-le xs ys)) ∙ ap length (agreement-shared xs ys) ∙ length-take (agreement xs ys) ys in
+    subst (λ (n : ℕ). n ≤ length ys) (sym count) (min-le-right (agreement xs ys) (length ys))
+
+-- no longer leading part is the same in both
+pub agreement-longest : (xs ys : List ℕ) (k : ℕ) → k ≤ length xs → take k xs ≡ take k ys → k ≤ agreement xs ys
+unfolding agreement
+agreement-longest xs ys zero h e = zero-le
+agreement-longest [] ys (suc k) h e = absurd (not-suc-le-zero h)
+agreement-longest (x ∷ xs) [] (suc k) h e = let z : _≡_ {A = ℕ} 0 1 = cc in absurd (omega arith)
+agreement-longest (x ∷ xs) (y ∷ ys) (suc k) h e =
+    let head : x ≡ y = cc in
+    let tail : take k xs ≡ take k ys = cc in
+    rw (agreement-same x y xs ys head) (suc-le-suc (agreement-longest xs ys k (le-of-suc-le-suc h) tail))
+
+-- both have the same number at each place of it
+pub agreement-agrees : (xs ys : List ℕ) (k : ℕ) → k < agreement xs ys → getD xs k 0 ≡ getD ys k 0
+agreement-agrees xs ys k h =
+    sym (getD-take (agreement xs ys) xs k 0 h)
+    ∙ ap (λ (l : List ℕ). getD l k 0) (agreement-shared xs ys)
+    ∙ getD-take (agreement xs ys) ys k 0 h
+
+-- ---- a leading part that agrees with the other list from where it first stands there
+
+-- it fits its list
+pub leading-le : (xs ys : List ℕ) → leading xs ys ≤ length xs
+unfolding leading
+leading-le [] ys = zero-le
+leading-le (x ∷ xs) ys = agreement-le (x ∷ xs) (drop (indexOf x ys) ys)
+
+-- its numbers are those of the other list from that place on
+pub leading-agrees : (xs ys : List ℕ) (k : ℕ) → k < leading xs ys → getD xs k 0 ≡ getD ys (indexOf (getD xs 0 0) ys + k) 0
+unfolding leading
+leading-agrees [] ys k h = absurd (not-suc-le-zero h)
+leading-agrees (x ∷ xs) ys k h =
+    agreement-agrees (x ∷ xs) (drop (indexOf x ys) ys) k h ∙ getD-drop (indexOf x ys) ys k 0
+
+-- all of them stand there
+pub leading-within : (xs ys : List ℕ) (k : ℕ) → k < leading xs ys → indexOf (getD xs 0 0) ys + k < length ys
+unfolding leading
+leading-within [] ys k h = absurd (not-suc-le-zero h)
+leading-within (x ∷ xs) ys k h =
+    omega (arith, agreement-le-second (x ∷ xs) (drop (indexOf x ys) ys), length-drop (indexOf x ys) ys, indexOf-le x ys)
+
+-- no longer leading part agrees so
+pub leading-longest : (xs ys : List ℕ) (k : ℕ) → k ≤ length xs → take k xs ≡ take k (drop (indexOf (getD xs 0 0) ys) ys) → k ≤ leading xs ys
+unfolding leading
+leading-longest [] ys k h e = h
+leading-longest (x ∷ xs) ys k h e = agreement-longest (x ∷ xs) (drop (indexOf x ys) ys) k h e
+
+-- it has a number where the first number stands in the other list, and there only
+pub leading-some : (xs ys : List ℕ) → startsIn xs ys ≡ ltb 0 (leading xs ys)
+unfolding startsIn leading
+leading-some [] ys = refl
+leading-some (x ∷ xs) ys = by (ltb (indexOf x ys) (length ys)) refl
+  where
+    by : (b : Bool) → ltb (indexOf x ys) (length ys) ≡ b → ltb (indexOf x ys) (length ys) ≡ ltb 0 (agreement (x ∷ xs) (drop (indexOf x ys) ys))
+    by true e =
+        let stands : indexOf x ys < length ys = ltb-true _ _ e in
+        rw (e, drop-cons ys (indexOf x ys) 0 stands, agreement-same x _ xs _ (sym (indexOf-stands x ys stands)))
+        (sym (lt-ltb 0 (suc (agreement xs (drop (suc (indexOf x ys)) ys))) (suc-le-suc zero-le)))
+    by false e = rw (e, drop-of-length-le ys (ltb-false _ _ e), agreement-nil)
+
+-- ---- the stretch
+
+-- the three cases, by the counts
+pub stretch-first : (xs ys : List ℕ) → 0 < leading xs ys → stretchOf xs ys ≡ ofFirst (leading xs ys)
+unfolding stretchOf
+stretch-first xs ys h = rw (leading-some xs ys, lt-ltb 0 (leading xs ys) h)
+
+pub stretch-second : (xs ys : List ℕ) → leading xs ys ≡ 0 → 0 < leading ys xs → stretchOf xs ys ≡ ofSecond (leading ys xs)
+unfolding stretchOf
+stretch-second xs ys n h = rw (leading-some xs ys, n, leading-some ys xs, lt-ltb 0 (leading ys xs) h)
+
+pub stretch-none : (xs ys : List ℕ) → leading xs ys ≡ 0 → leading ys xs ≡ 0 → stretchOf xs ys ≡ ofFirst 0
+unfolding stretchOf
+stretch-none xs ys n m = rw (leading-some xs ys, n, leading-some ys xs, m)
+
+-- what holds of each case holds of the stretch
+pub stretch-cases : (P : Stretch → Type 0) (xs ys : List ℕ)
+    → P (ofFirst (leading xs ys)) → P (ofSecond (leading ys xs)) → P (ofFirst 0) → P (stretchOf xs ys)
+unfolding stretchOf
+stretch-cases P xs ys first second none = by (startsIn xs ys) (startsIn ys xs)
+  where
+    by : (a b : Bool) → P (cond a (ofFirst (leading xs ys)) (cond b (ofSecond (leading ys xs)) (ofFirst 0)))
+    by true b = first
+    by false true = second
+    by false false = none
+
+-- it is no longer than the list that it begins
+pub stretch-fits : (xs ys : List ℕ) → lengthOf (stretchOf xs ys) ≤ length (begun (stretchOf xs ys) xs ys)
+stretch-fits xs ys =
+    stretch-cases (λ s. lengthOf s ≤ length (begun s xs ys)) xs ys (leading-le xs ys) (leading-le ys xs) zero-le
+
+-- its numbers are those of the other list, from where its first number first stands there
+pub stretch-agrees : (xs ys : List ℕ) (k : ℕ) → k < lengthOf (stretchOf xs ys)
+    → getD (begun (stretchOf xs ys) xs ys) k 0
+    ≡ getD (begun (stretchOf xs ys) ys xs) (indexOf (getD (begun (stretchOf xs ys) xs ys) 0 0) (begun (stretchOf xs ys) ys xs) + k) 0
+stretch-agrees xs ys k =
+    stretch-cases (λ s. k < lengthOf s → getD (begun s xs ys) k 0 ≡ getD (begun s ys xs) (indexOf (getD (begun s xs ys) 0 0) (begun s ys xs) + k) 0) xs ys
+    (leading-agrees xs ys k)
+    (leading-agrees ys xs k)
+    (λ h. absurd (not-suc-le-zero h))
+
+-- all of them stand there
+pub stretch-within : (xs ys : List ℕ) (k : ℕ) → k < lengthOf (stretchOf xs ys)
+    → indexOf (getD (begun (stretchOf xs ys) xs ys) 0 0) (begun (stretchOf xs ys) ys xs) + k < length (begun (stretchOf xs ys) ys xs)
+stretch-within xs ys k =
+    stretch-cases (λ s. k < lengthOf s → indexOf (getD (begun s xs ys) 0 0) (begun s ys xs) + k < length (begun s ys xs)) xs ys
+    (leading-within xs ys k)
+    (leading-within ys xs k)
+    (λ h. absurd (not-suc-le-zero h))
+
+-- ---- worked: nothing shared; the first list begins; the second begins; only the first place counts; either could begin; an empty list
+
+pub stretch-examples :
+    (stretchOf (1 ∷ 2 ∷ []) (3 ∷ 4 ∷ []) ≡ ofFirst 0)
+    × (stretchOf (3 ∷ 4 ∷ 5 ∷ []) (1 ∷ 3 ∷ 4 ∷ 6 ∷ []) ≡ ofFirst 2)
+    × (stretchOf (1 ∷ 3 ∷ 4 ∷ 6 ∷ []) (3 ∷ 4 ∷ 5 ∷ []) ≡ ofSecond 2)
+    × (stretchOf (1 ∷ 2 ∷ 3 ∷ []) (1 ∷ 9 ∷ 1 ∷ 2 ∷ 3 ∷ []) ≡ ofFirst 1)
+    × (stretchOf (1 ∷ 2 ∷ []) (2 ∷ 1 ∷ []) ≡ ofFirst 1)
+    × (stretchOf [] (1 ∷ []) ≡ ofFirst 0)
+    × (stretchOf (1 ∷ []) [] ≡ ofFirst 0)
+unfolding stretchOf startsIn leading indexOf agreement
+stretch-examples = (refl, refl, refl, refl, refl, refl, refl)

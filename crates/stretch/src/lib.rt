@@ -1,0 +1,61 @@
+// The shared stretch of two lists of layout numbers (document 01, "Shared stretch"), handed back as a part of the list that it begins.
+ghost use mathlib.Core.Path.{_≡_};
+ghost use Rattle.model.specs.Stretch.{agreement, leading, StretchOutcome};
+ghost use Rattle.model.specs.Lists.{indexOf};
+
+// The shared stretch: a leading part of one of the two lists.
+pub fn shared_stretch<'a>(first: &'a [u16], second: &'a [u16]) -> &'a [u16]
+    ensures { λ r. ⌜ StretchOutcome (first .entry) (second .entry) r ⌝ }
+{
+    let count = leading(first, second);
+    if 0 < count {
+        return &first[..count];
+    }
+    let exchanged = leading(second, first);
+    if 0 < exchanged {
+        return &second[..exchanged];
+    }
+    &first[..0]
+}
+
+// How many leading numbers of `list` agree with `other` from where the first of them first stands there; 0 where it does not.
+fn leading(list: &[u16], other: &[u16]) -> usize
+    ensures { λ r. ⌜ r ≡ leading (now (list .entry)) (now (other .entry)) ⌝ }
+{
+    if list.len() == 0 {
+        return 0;
+    }
+    let place = place_of(list[0], other);
+    agreement(list, &other[place..])
+}
+
+// The place where `number` first stands in `list`; the length where it does not stand there.
+fn place_of(number: u16, list: &[u16]) -> usize
+    ensures { λ r. ⌜ r ≡ indexOf number (now (list .entry)) ⌝ }
+{
+    let mut place = 0;
+    while place < list.len() {
+        if list[place] == number {
+            return place;
+        }
+        place += 1;
+    }
+    place
+}
+
+// How many leading numbers are the same in both lists.
+fn agreement(list: &[u16], other: &[u16]) -> usize
+    ensures { λ r. ⌜ r ≡ agreement (now (list .entry)) (now (other .entry)) ⌝ }
+{
+    let mut count = 0;
+    while count < list.len() {
+        if other.len() <= count {
+            return count;
+        }
+        if list[count] != other[count] {
+            return count;
+        }
+        count += 1;
+    }
+    count
+}

@@ -1,0 +1,112 @@
+-- The children of a layout: which they are, in which order they stand, and what lies below them.
+-- Assumes nothing.
+use Prim.Native.Nat.{ℕ, zero, suc, _≤_, _<_}
+use mathlib.Core.Path.{_≡_, refl, sym, ap, _∙_}
+use mathlib.Core.Logic.{_⊎_, inl, inr, ⊎-elim}
+use mathlib.Core.List.{List, [], _∷_, _++_, List·Memᴰ as Mem, List·Memᴰ·head as here, List·Memᴰ·not-nil as not-nil, List·Memᴰ·cases-cons as mem-cons, List·Memᴰ·append-cases as mem-append}
+use native.Mathlib.Decide.{decLe}
+use native.Mathlib.Omega.{arith}
+use lib.ListN.{length, getD}
+use lib.Dec.{eqb}
+use borrow.Author.Tests.{eqb-true, eq-eqb}
+use Rattle.model.specs.Lists.{numbers, Pairwise}
+use Rattle.model.specs.Tree.{FFFF, depth, children}
+use Rattle.tree.specs.Lists.{getD-inside, all-mem, mem-range, range-mem, range-rises, select-mem, mem-select, select-pairwise, pairwise-right, pairwise-across}
+use Rattle.tree.specs.WellFormed.{Tree}
+use Rattle.tree.specs.Chain.{Above, self, up, above-trans, above-same, depth-child}
+
+module _ (ps : List ℕ) (t : Tree ps) where
+  -- a child of x is a layout after the first whose parent is x
+  pub child-parent : {x y : ℕ} → x < length ps → Mem y (children ps x) → (y < length ps) × (getD ps y 0 ≡ x) × (0 < y)
+  unfolding children numbers
+  child-parent {x} {y} h m =
+      let s = select-mem (λ (y : ℕ). eqb (getD ps y FFFF) x) (numbers (length ps)) m in
+      let r = range-mem 0 (length ps) (s .0) in
+      let inside : y < length ps = omega arith in
+      let parent : getD ps y 0 ≡ x = getD-inside ps y 0 FFFF inside ∙ eqb-true (getD ps y FFFF) x (s .1) in
+      (inside, parent, later y parent)
+    where
+      later : (y : ℕ) → getD ps y 0 ≡ x → 0 < y
+      later zero e = absurd (omega (arith, t .root, t .small))
+      later (suc y) e = omega arith
+
+  -- and every such layout is a child of x
+  pub parent-child : {x y : ℕ} → y < length ps → getD ps y 0 ≡ x → Mem y (children ps x)
+  unfolding children numbers
+  parent-child {x} {y} h e = mem-select (λ (y : ℕ). eqb (getD ps y FFFF) x) (mem-range y 0 (length ps) (omega arith) (omega arith)) (eq-eqb (getD ps y FFFF) x (getD-inside ps y FFFF 0 h ∙ e))
+
+  -- a child has a greater number
+  pub child-greater : {x c : ℕ} → x < length ps → Mem c (children ps x) → x < c
+  child-greater {x} {c} h m = let k = child-parent h m in omega (arith, t .smaller c (k .2))
+
+  -- and is one deeper
+  pub child-depth : {x c : ℕ} → x < length ps → Mem c (children ps x) → depth ps c ≡ suc (depth ps x)
+  child-depth {x} {c} h m = let k = child-parent h m in depth-child ps t c (k .2) ∙ ap (λ (p : ℕ). suc (depth ps p)) (k .1)
+
+  -- ---- their order
+
+  -- children stand in rising order, as the numbers do that they are selected from
+  pub children-rise : (x : ℕ) → Pairwise _<_ (children ps x)
+  unfolding children numbers
+  children-rise x = select-pairwise (λ (y : ℕ). eqb (getD ps y FFFF) x) _<_ (numbers (length ps)) (range-rises 0 (length ps))
+
+  module _ (x : ℕ) (done : List ℕ) (c : ℕ) (rest : List ℕ) (e : children ps x ≡ done ++ c ∷ rest) where
+    rises : Pairwise _<_ (done ++ c ∷ rest)
+    rises = rw e at (children-rise x)
+
+    -- the children in front of c are smaller, and those behind it greater
+    pub done-smaller : {y : ℕ} → Mem y done → y < c
+    done-smaller {y} m = pairwise-across _<_ done (c ∷ rest) rises y c m (here refl)
+
+    pub rest-greater : {y : ℕ} → Mem y rest → c < y
+    rest-greater {y} m = all-mem (λ (y : ℕ). c < y) (pairwise-right _<_ done (c ∷ rest) rises .0) m
+
+    -- the children greater than c are those behind it
+    pub greater-rest : {y : ℕ} → Mem y (children ps x) → c < y → Mem y rest
+    greater-rest {y} m l = ⊎-elim
+        (λ (m : Mem y done). absurd (omega (arith, done-smaller m)))
+        (λ (m : Mem y (c ∷ rest)). ⊎-elim (λ (e : y ≡ c). absurd (omega arith)) (λ (m : Mem y rest). m) (mem-cons m))
+        (mem-append done (rw e at m))
+
+    -- and the smaller ones those in front
+    pub smaller-done : {y : ℕ} → Mem y (children ps x) → y < c → Mem y done
+    smaller-done {y} m l = ⊎-elim
+        (λ (m : Mem y done). m)
+        (λ (m : Mem y (c ∷ rest)). ⊎-elim (λ (e : y ≡ c). absurd (omega arith)) (λ (m : Mem y rest). absurd (omega (arith, rest-greater m))) (mem-cons m))
+        (mem-append done (rw e at m))
+
+  -- the first child greater than c is the one behind it
+  pub next-child : (x : ℕ) (done : List ℕ) (c d : ℕ) (rest : List ℕ) → children ps x ≡ done ++ c ∷ d ∷ rest → {y : ℕ} → Mem y (children ps x) → c < y → d ≤ y
+  next-child x done c d rest e {y} m l = ⊎-elim
+      (λ (same : y ≡ d). omega arith)
+      (λ (m : Mem y rest). omega (arith, all-mem (λ (y : ℕ). d < y) (pairwise-right _<_ done (c ∷ d ∷ rest) (rises x done c (d ∷ rest) e) .1 .0) m))
+      (mem-cons (greater-rest x done c (d ∷ rest) e m l))
+
+  -- where nothing is behind c, no child is greater
+  pub last-child : (x : ℕ) (done : List ℕ) (c : ℕ) → children ps x ≡ done ++ c ∷ [] → {y : ℕ} → Mem y (children ps x) → y ≤ c
+  last-child x done c e {y} m = elim (decLe y c) [
+    | yes h ↦ h
+    | no n ↦ absurd (not-nil (greater-rest x done c [] e m (omega arith)))
+  ]
+
+  -- ---- what lies below them
+
+  -- what is at or below x is x or at or below a child of it: the last step down from x leads to a child
+  pub above-child : {x y : ℕ} → y < length ps → Above ps x y → (x ≡ y) ⊎ ((c : ℕ) × (Mem c (children ps x) × Above ps c y))
+  above-child h self = inl refl
+  above-child {x} h (up {x = y} k a) = ⊎-elim
+      (λ (e : x ≡ getD ps y 0). inr (y, (parent-child h (sym e), self)))
+      (λ (r : (c : ℕ) × (Mem c (children ps x) × Above ps c (getD ps y 0))). inr (r .0, (r .1 .0, up k (r .1 .1))))
+      (above-child (omega (arith, t .smaller y k)) a)
+
+  -- a parent is above its child
+  pub parent-above : {x c : ℕ} → x < length ps → Mem c (children ps x) → Above ps x c
+  parent-above {x} {c} h m = let k = child-parent h m in up {u = x} {x = c} (k .2) (rw (k .1) self)
+
+  -- and above all that the child is above
+  pub child-above : {x c y : ℕ} → x < length ps → Mem c (children ps x) → Above ps c y → Above ps x y
+  child-above h m a = above-trans ps t (parent-above h m) a
+
+  -- two children above one layout are one: they have the same depth
+  pub child-unique : {x c d y : ℕ} → x < length ps → Mem c (children ps x) → Mem d (children ps x) → Above ps c y → Above ps d y → c ≡ d
+  child-unique h m n a b = above-same ps t a b (child-depth h m ∙ sym (child-depth h n))

@@ -1,0 +1,9 @@
+-- Laws of the tree of layouts, after document 01's "The tree and the running order".
+pub mod Lists
+pub mod WellFormed
+pub mod Chain
+pub mod Children
+pub mod Leaves
+pub mod Spans
+pub mod Sharing
+pub mod Deepest

@@ -1,0 +1,98 @@
+-- The span of a layout, from its first leaf to its last: nested along a chain, disjoint at one depth; and by it the test for "above".
+-- Assumes nothing.
+use Prim.Native.Nat.{ℕ, suc, _+_, _≤_, _<_, max}
+use mathlib.Core.Path.{_≡_, ap, _∙_}
+use mathlib.Core.Bool.{Bool, true, _&&_, and-eq-true-iff}
+use mathlib.Core.Logic.{_⊎_, inl, inr, _≢_}
+use mathlib.Core.List.{List, _++_, append-assoc, List·Memᴰ as Mem}
+use native.Mathlib.Decide.{decLt}
+use native.Mathlib.Omega.{arith}
+use lib.ListN.{length, getD, length-append}
+use lib.Dec.{leb}
+use borrow.Author.Tests.{leb-true, le-leb}
+use Rattle.model.specs.Tree.{above, depth, leaves, firstLeaf, lastLeaf}
+use Rattle.tree.specs.Lists.{piece-mem, same-test}
+use Rattle.tree.specs.WellFormed.{Tree}
+use Rattle.tree.specs.Chain.{Above, self, above-le, above-depth, above-linear, above-same, above-true, true-above}
+use Rattle.tree.specs.Leaves.{leaves-nonempty, leaf-above, part-of, segment, first-at, last-at, last-is}
+
+-- leaf number k lies in the span of x
+pub record InSpan (ps : List ℕ) (k x : ℕ) : Type 0 where
+  pub first : firstLeaf ps x ≤ k
+  pub last : k ≤ lastLeaf ps x
+
+-- the test for "in the span and no deeper", and what it tells
+module _ (ps : List ℕ) (k x d e : ℕ) where
+  abbrev pub inSpan : Bool
+  inSpan = leb (firstLeaf ps x) k && leb k (lastLeaf ps x) && leb d e
+
+  pub in-span-true : inSpan ≡ true → InSpan ps k x × (d ≤ e)
+  in-span-true h =
+      let outer = and-eq-true-iff (leb (firstLeaf ps x) k && leb k (lastLeaf ps x)) (leb d e) .0 h in
+      let inner = and-eq-true-iff (leb (firstLeaf ps x) k) (leb k (lastLeaf ps x)) .0 (outer .0) in
+      (record { first = leb-true (firstLeaf ps x) k (inner .0); last = leb-true k (lastLeaf ps x) (inner .1) }, leb-true d e (outer .1))
+
+  pub true-in-span : InSpan ps k x → d ≤ e → inSpan ≡ true
+  true-in-span i h = rw (le-leb (firstLeaf ps x) k (i .first), le-leb k (lastLeaf ps x) (i .last), le-leb d e h)
+
+module _ (ps : List ℕ) (t : Tree ps) where
+  -- a span has at least one leaf, its first
+  pub first-le-last : (x : ℕ) → x < length ps → firstLeaf ps x ≤ lastLeaf ps x
+  first-le-last x h = omega (arith, last-is ps t x h, leaves-nonempty ps x)
+
+  -- the span of a layout lies in that of each layout above it, as its leaves are a piece of the other's
+  pub nested : {u x : ℕ} → x < length ps → Above ps u x → (firstLeaf ps u ≤ firstLeaf ps x) × (lastLeaf ps x ≤ lastLeaf ps u)
+  nested {u} {x} h a =
+      let s = segment ps t u (omega (arith, above-le ps t a)) in
+      let p = part-of ps t h a in
+      let whole : leaves ps 0 ≡ (s .0 ++ p .0) ++ (leaves ps x ++ (p .1 ++ s .1)) = s .2 ∙ ap (λ (l : List ℕ). s .0 ++ (l ++ s .1)) (p .2) ∙ simp append-assoc in
+      let first : firstLeaf ps x ≡ length (s .0 ++ p .0) = first-at ps t x (s .0 ++ p .0) (p .1 ++ s .1) whole in
+      let last : suc (lastLeaf ps x) ≡ length (s .0 ++ p .0) + length (leaves ps x) = last-at ps t x (s .0 ++ p .0) (p .1 ++ s .1) whole in
+      let longer : length (leaves ps u) ≡ length (p .0) + (length (leaves ps x) + length (p .1)) = ap length (p .2) ∙ simp length-append in
+      let front : length (s .0 ++ p .0) ≡ length (s .0) + length (p .0) = length-append (s .0) (p .0) in
+      (omega arith, omega (arith, last-is ps t u (omega (arith, above-le ps t a))))
+
+  -- the leaf at a place of a span is a leaf of the layout
+  span-leaf : {k x : ℕ} → x < length ps → InSpan ps k x → Mem (getD (leaves ps 0) k 0) (leaves ps x)
+  span-leaf {k} {x} h i = let s = segment ps t x h in rw (s .2) (piece-mem (s .0) (leaves ps x) (s .1) k 0 (omega arith) (omega (arith, last-is ps t x h)))
+
+  -- two spans that meet are of layouts above one another, as their depths say: both are above the leaf that they share
+  pub spans-meet : {k u x : ℕ} → u < length ps → x < length ps → InSpan ps k u → InSpan ps k x → depth ps u ≤ depth ps x → Above ps u x
+  spans-meet {k} {u} {x} h j i i′ d =
+      let leaf : ℕ = getD (leaves ps 0) k 0 in
+      above-linear ps t (leaf-above ps t u h leaf (span-leaf h i) .0) (leaf-above ps t x j leaf (span-leaf j i′) .0) d
+
+  -- two layouts at one depth whose spans meet are one
+  pub spans-same : {k u x : ℕ} → u < length ps → x < length ps → InSpan ps k u → InSpan ps k x → depth ps u ≡ depth ps x → u ≡ x
+  spans-same h j i i′ d = above-same ps t (spans-meet h j i i′ (omega arith)) self d
+
+  -- two layouts at one depth have disjoint spans: otherwise the later of the two first leaves is in both
+  pub disjoint : (u x : ℕ) → u < length ps → x < length ps → depth ps u ≡ depth ps x → u ≢ x → (lastLeaf ps u < firstLeaf ps x) ⊎ (lastLeaf ps x < firstLeaf ps u)
+  disjoint u x h j d differ = elim (decLt (lastLeaf ps u) (firstLeaf ps x)) [
+    | yes l ↦ inl l
+    | no meet ↦ inr (elim (decLt (lastLeaf ps x) (firstLeaf ps u)) [
+      | yes l ↦ l
+      | no meet′ ↦ absurd (differ (spans-same {k = max (firstLeaf ps u) (firstLeaf ps x)} h j (both-u meet meet′) (both-x meet meet′) d))
+    ])
+  ]
+    where
+      both-u : ¬ (lastLeaf ps u < firstLeaf ps x) → ¬ (lastLeaf ps x < firstLeaf ps u) → InSpan ps (max (firstLeaf ps u) (firstLeaf ps x)) u
+      both-u meet meet′ = record { first = omega arith; last = omega (arith, first-le-last u h) }
+
+      both-x : ¬ (lastLeaf ps u < firstLeaf ps x) → ¬ (lastLeaf ps x < firstLeaf ps u) → InSpan ps (max (firstLeaf ps u) (firstLeaf ps x)) x
+      both-x meet meet′ = record { first = omega arith; last = omega (arith, first-le-last x j) }
+
+  -- (A) what is above x has the first leaf of x in its span and is no deeper
+  pub above-span : {u x : ℕ} → x < length ps → Above ps u x → InSpan ps (firstLeaf ps x) u × (depth ps u ≤ depth ps x)
+  above-span {u} {x} h a = (record { first = nested h a .0; last = omega (arith, nested h a .1, first-le-last x h) }, above-depth ps t a)
+
+  -- and what has is above x: its span and that of x meet
+  pub span-above : {u x : ℕ} → u < length ps → x < length ps → InSpan ps (firstLeaf ps x) u → depth ps u ≤ depth ps x → Above ps u x
+  span-above {u} {x} h j i d = spans-meet h j i (record { first = omega arith; last = first-le-last x j }) d
+
+  -- (A) as an equation of tests: u is above x exactly if the first leaf of x lies in the span of u and u is no deeper
+  pub ancestor-test : (u x : ℕ) → u < length ps → x < length ps
+      → above ps u x ≡ (leb (firstLeaf ps u) (firstLeaf ps x) && leb (firstLeaf ps x) (lastLeaf ps u) && leb (depth ps u) (depth ps x))
+  ancestor-test u x h j = same-test (above ps u x) (inSpan ps (firstLeaf ps x) u (depth ps u) (depth ps x))
+      (λ e. let s = above-span j (above-true ps t u x e) in true-in-span ps (firstLeaf ps x) u (depth ps u) (depth ps x) (s .0) (s .1))
+      (λ e. let s = in-span-true ps (firstLeaf ps x) u (depth ps u) (depth ps x) e in true-above ps t (span-above h j (s .0) (s .1)))

@@ -1,0 +1,55 @@
+-- What an accepted list of parents has: layout 0 at its head, and for each later layout a parent with a smaller number.
+-- Assumes nothing.
+use Prim.Native.Nat.{ℕ, zero, suc, _+_, _≤_, _<_}
+use mathlib.Core.Path.{_≡_, refl}
+use mathlib.Core.Bool.{Bool, true, false, not}
+use mathlib.Core.List.{List, [], _∷_}
+use native.Mathlib.Nat.{zero-add, add-zero, suc-add, add-suc}
+use native.Mathlib.Decide.{decLt}
+use native.Mathlib.Omega.{arith}
+use lib.ListN.{length, getD, List·getD-eq-default}
+use borrow.Author.Tests.{ltb-true, eqb-true}
+use Rattle.model.specs.Verdict.{Verdict, accepted, refuseIf, _then_}
+use Rattle.model.specs.Tree.{FFFF, layoutLimit, rightParent, layoutsFrom, treeVerdict}
+
+-- a list of parents that is a tree. Past the end `getD` gives 0, so `smaller` holds of every number
+pub record Tree (ps : List ℕ) : Type 0 where
+  pub nonempty : 0 < length ps
+  pub root : getD ps 0 0 ≡ FFFF
+  pub smaller : (x : ℕ) → 0 < x → getD ps x 0 < x
+  pub small : length ps ≤ layoutLimit
+
+-- no refusal was the first, and none came after it
+passed : (b : Bool) (number place : ℕ) (v : Verdict) → (refuseIf (not b) number place then v) ≡ accepted → (b ≡ true) × (v ≡ accepted)
+passed true number place v e = (refl, e)
+passed false number place v e = (cc, cc)
+
+-- every layout has a right parent: the first has, and so have the rest
+right-parents : (x : ℕ) (ps : List ℕ) → layoutsFrom x ps ≡ accepted → (i : ℕ) → i < length ps → rightParent (x + i) (getD ps i 0) ≡ true
+unfolding layoutsFrom
+right-parents x [] e i h = let no-place : ⊥ = omega arith in absurd no-place
+right-parents x (p ∷ ps) e zero h = rw add-zero (passed (rightParent x p) 4 x (layoutsFrom (suc x) ps) e .0)
+right-parents x (p ∷ ps) e (suc i) h = rw (add-suc, ← suc-add) (right-parents (suc x) ps (passed (rightParent x p) 4 x (layoutsFrom (suc x) ps) e .1) i (omega arith))
+
+module _ (ps : List ℕ) (right : (i : ℕ) → i < length ps → rightParent i (getD ps i 0) ≡ true) where
+  -- a parent is smaller: by the test inside the list, and past its end it is 0
+  parent-smaller : (x : ℕ) → 0 < x → getD ps x 0 < x
+  unfolding rightParent
+  parent-smaller zero h = omega arith
+  parent-smaller (suc x) h = elim (decLt (suc x) (length ps)) [
+    | yes inside ↦ ltb-true (getD ps (suc x) 0) (suc x) (right (suc x) inside)
+    | no outside ↦ rw (List·getD-eq-default ps 0 {n = suc x} (omega arith)) h
+  ]
+
+  root-parent : 0 < length ps → getD ps 0 0 ≡ FFFF
+  unfolding rightParent
+  root-parent h = eqb-true (getD ps 0 0) FFFF (right 0 h)
+
+-- an accepted list of parents is a tree
+pub well-formed : (ps : List ℕ) → treeVerdict ps ≡ accepted → length ps ≤ layoutLimit → Tree ps
+unfolding treeVerdict
+well-formed [] e small = let apart : _≡_ {A = ℕ} 0 1 = cc in absurd (omega arith)
+well-formed (p ∷ ps) e small = record { nonempty = omega arith; root = root-parent (p ∷ ps) right (omega arith); smaller = parent-smaller (p ∷ ps) right; small = small }
+  where
+    right : (i : ℕ) → i < length (p ∷ ps) → rightParent i (getD (p ∷ ps) i 0) ≡ true
+    right i h = rw zero-add at (right-parents 0 (p ∷ ps) e i h)
