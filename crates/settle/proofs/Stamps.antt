@@ -4,15 +4,14 @@ use Prim.Native.Nat.{ℕ, zero, suc, _+_, _-_, _<_, _≤_}
 use mathlib.Core.Path.{_≡_, refl, sym, ap, _∙_}
 use mathlib.Core.Bool.{Bool, true, false, cond, not, _||_, _&&_}
 use mathlib.Core.List.{List, [], _∷_, _++_, map}
-use native.Mathlib.Nat.{zero-add, suc-add, add-suc, add-zero}
 use native.Mathlib.Omega.{arith}
-use native.Mathlib.Numerals.{add-one}
 use native.Mathlib.Decide.{ℕ-discrete, decLt}
 use lib.ListN.{length, getD, set, drop, length-set, length-append, length-map, length-drop}
 use lib.Seq.{getD-set-same, getD-set-other, ext-getD, getD-append-add, getD-drop}
 use lib.Dec.{eqb, ltb}
 use borrow.Author.Tests.{lt-ltb, le-ltb, eq-eqb, ne-eqb}
-use Rattle.model.specs.Lists.{numbers, numbersFrom}
+use Rattle.model.specs.Lists.{numbers}
+use Rattle.tree.specs.Numbers.{numbers-length, numbers-at}
 use Rattle.settle.specs.Numbering.{Stamped}
 
 -- the same cells under another test
@@ -46,36 +45,24 @@ one-more x y = elim (ℕ-discrete y x) [
   ])
 ]
 
-pub length-numbersFrom : (a n : ℕ) → length (numbersFrom a n) ≡ n
-unfolding numbersFrom
-length-numbersFrom a zero = refl
-length-numbersFrom a (suc n) = ap suc (length-numbersFrom (suc a) n)
-
-pub map-numbers-at : (f : ℕ → ℕ) (a n i : ℕ) → i < n → getD (map f (numbersFrom a n)) i 0 ≡ f (a + i)
-unfolding numbersFrom
-map-numbers-at f a zero i h = let z : ⊥ = omega arith in absurd z
-map-numbers-at f a (suc n) zero h = ap f (sym (add-zero a))
-map-numbers-at f a (suc n) (suc i) h = map-numbers-at f (suc a) n i (omega arith) ∙ ap f (suc-add a i ∙ sym (add-suc a i))
-
 -- every cell below n written, and no other
 pub stamped-all : (n : ℕ) (f : ℕ → ℕ) (old new : List ℕ) → n ≤ length old → length new ≡ length old → Stamped (λ (y : ℕ). ltb y n) f old new → new ≡ map f (numbers n) ++ drop n old
-unfolding numbers
-stamped-all n f old new room same s = ext-getD 0 new (map f (numbersFrom 0 n) ++ drop n old) lengths at
+stamped-all n f old new room same s = ext-getD 0 new (map f (numbers n) ++ drop n old) lengths at
   where
-    head-length : length (map f (numbersFrom 0 n)) ≡ n
-    head-length = length-map (numbersFrom 0 n) f ∙ length-numbersFrom 0 n
+    head-length : length (map f (numbers n)) ≡ n
+    head-length = length-map (numbers n) f ∙ numbers-length n
 
-    lengths : length new ≡ length (map f (numbersFrom 0 n) ++ drop n old)
-    lengths = rw (length-append (map f (numbersFrom 0 n)) (drop n old), head-length, length-drop n old) (omega arith)
+    lengths : length new ≡ length (map f (numbers n) ++ drop n old)
+    lengths = rw (length-append (map f (numbers n)) (drop n old), head-length, length-drop n old) (omega arith)
 
-    past : (i : ℕ) → n ≤ i → getD (map f (numbersFrom 0 n) ++ drop n old) i 0 ≡ getD old i 0
+    past : (i : ℕ) → n ≤ i → getD (map f (numbers n) ++ drop n old) i 0 ≡ getD old i 0
     past i h =
-        let e : i ≡ length (map f (numbersFrom 0 n)) + (i - n) = rw head-length (omega arith) in
+        let e : i ≡ length (map f (numbers n)) + (i - n) = rw head-length (omega arith) in
         let back : n + (i - n) ≡ i = omega arith in
-        ap (λ (k : ℕ). getD (map f (numbersFrom 0 n) ++ drop n old) k 0) e ∙ getD-append-add (map f (numbersFrom 0 n)) (drop n old) (i - n) 0 ∙ getD-drop n old (i - n) 0 ∙ ap (λ (k : ℕ). getD old k 0) back
+        ap (λ (k : ℕ). getD (map f (numbers n) ++ drop n old) k 0) e ∙ getD-append-add (map f (numbers n)) (drop n old) (i - n) 0 ∙ getD-drop n old (i - n) 0 ∙ ap (λ (k : ℕ). getD old k 0) back
 
-    at : (i : ℕ) → i < length new → getD new i 0 ≡ getD (map f (numbersFrom 0 n) ++ drop n old) i 0
+    at : (i : ℕ) → i < length new → getD new i 0 ≡ getD (map f (numbers n) ++ drop n old) i 0
     at i h = elim (decLt i n) [
-      | yes less ↦ s i ∙ rw (lt-ltb i n less, lib.ListN.List·getD-append (map f (numbersFrom 0 n)) (drop n old) 0 i (rw head-length less)) (sym (map-numbers-at f 0 n i less ∙ ap f (zero-add i)))
+      | yes less ↦ s i ∙ rw (lt-ltb i n less, lib.ListN.List·getD-append (map f (numbers n)) (drop n old) 0 i (rw head-length less)) (sym (numbers-at f n i 0 less))
       | no more ↦ s i ∙ rw (le-ltb i n (omega arith)) (sym (past i (omega arith)))
     ]

@@ -1,1 +1,2 @@
+pub mod Spanned
 pub mod Numbering

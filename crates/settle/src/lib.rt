@@ -3,14 +3,16 @@ use model::LayoutNumber;
 use model::Refusal;
 use model::Settled;
 ghost use mathlib.Core.Path.{_≡_};
+ghost use mathlib.Core.List.{List};
 ghost use Prim.Native.Nat.{ℕ, _+_, _<_, _≤_};
 ghost use lib.ListN.{length, getD};
 ghost use lib.Dec.{ltb};
 ghost use Rattle.model.specs.Verdict.{refuses};
-ghost use Rattle.model.specs.Tree.{rightParent, depth};
+ghost use Rattle.model.specs.Tree.{rightParent, depth, above};
 ghost use Rattle.model.specs.Answers.{settledAnswer};
 ghost use Rattle.model.specs.Outcomes.{SettleOutcome};
 ghost use Rattle.tree.specs.WellFormed.{Tree};
+ghost use Rattle.settle.specs.Spanned.{Spanned};
 ghost use Rattle.settle.specs.Numbering.{FirstWrong, Unlinked, Linked, Stamped, Numberable, Numbered, atOrBelow, strictlyBelow};
 
 // Whether p can be the parent of layout x: FFFF for layout 0, else a smaller number.
@@ -164,4 +166,35 @@ pub fn settle_layouts(
     link_children(parents, &mut child, &mut sibling);
     number(parents, &child, &sibling, LayoutNumber(0), 0, firsts, lasts);
     Settled::Done
+}
+
+// What stands at a layout's number, or 0 past the end.
+fn cell(cells: &[u16], x: LayoutNumber) -> u16
+    ensures { λ r. ⌜ r ≡ getD (now (cells .entry)) (x .0) 0 ⌝ }
+{
+    let at = x.0 as usize;
+    if at < cells.len() {
+        return cells[at];
+    }
+    0
+}
+
+// Whether layout x is at or below layout u of a tree whose layouts are settled, by spans and depths, in constant time (000, section 2).
+pub fn at_or_below(
+    u: LayoutNumber,
+    x: LayoutNumber,
+    depths: &[u16],
+    firsts: &[u16],
+    lasts: &[u16],
+) -> bool
+    ensures { λ r. ⌜ ((ps : List ℕ) → Spanned ps (now (depths .entry)) (now (firsts .entry)) (now (lasts .entry)) → u .0 < length ps → x .0 < length ps → r ≡ above ps (u .0) (x .0)) ⌝ }
+{
+    let leaf = cell(firsts, x);
+    if leaf < cell(firsts, u) {
+        return false;
+    }
+    if cell(lasts, u) < leaf {
+        return false;
+    }
+    cell(depths, u) <= cell(depths, x)
 }
