@@ -1,0 +1,87 @@
+-- `frame::read_frame` meets its contract: a frame's line is 6 or 10 digits and 0A.
+-- Assumes nothing.
+use Prim.Native.Nat.{ℕ, _-_}
+use mathlib.Core.Path.{_≡_, refl, sym, _∙_}
+use mathlib.Core.List.{List, []}
+use native.Mathlib.Nat.{le-of-lt, le-refl}
+use lib.ListN.{length, take, drop, length-drop, drop-of-length-le}
+use lib.Seq.{take-all}
+use borrow.Author.Needs.{needs}
+use Rattle.model.specs.Lists.{all}
+use Rattle.frame.specs.Lines.{no-frame, digitLine}
+use Rattle.frame.proofs.read_frame.Statement.{statement}
+use Rattle.frame.proofs.read_frame.Tie as tie
+
+-- a part to the end is what is left
+rest : (s : List ℕ) (at : ℕ) → take (length s - at) (drop at s) ≡ drop at s
+rest s at = take-all (length s - at) (drop at s) (rw length-drop (le-refl (length s - at)))
+
+no-frame-requires : tie.Need-no-frame-requires
+no-frame-requires c κs = search needs
+
+returns : tie.Need-returns
+unfolding digitLine all
+returns c =
+    let s = c .before .before .before .args .bytes .now in
+    let past = drop-of-length-le s (le-of-lt (c .before .if1 .taken)) in
+    rw (c .no-frame .ensures, past, no-frame [] refl refl)
+
+sub-s : tie.Need-sub-s
+sub-s c = search needs
+
+part-s-start : tie.Need-part-s-start
+part-s-start c = search needs
+
+part-s-end : tie.Need-part-s-end
+part-s-end c = search needs
+
+digit-line-requires : tie.Need-digit-line-requires
+digit-line-requires c κs = search needs
+
+short-frame-requires : tie.Need-short-frame-requires
+short-frame-requires c κs = sym (c .before .digit-line .ensures) ∙ c .if2 .taken
+
+returns-2 : tie.Need-returns-2
+returns-2 c =
+    let a = c .before .before .before .before .before .before .args in
+    rw (← rest (a .bytes .now) (a .at)) (c .short-frame .ensures)
+
+digit-line-requires-2 : tie.Need-digit-line-requires-2
+digit-line-requires-2 c κs = search needs
+
+long-frame-requires : tie.Need-long-frame-requires
+long-frame-requires c κs = sym (c .before .digit-line2 .ensures) ∙ c .if3 .taken
+
+returns-3 : tie.Need-returns-3
+returns-3 c =
+    let a = c .before .before .before .before .before .before .before .before .args in
+    rw (← rest (a .bytes .now) (a .at)) (c .long-frame .ensures)
+
+no-frame-requires-2 : tie.Need-no-frame-requires-2
+no-frame-requires-2 c κs = search needs
+
+returns-4 : tie.Need-returns-4
+returns-4 c =
+    let a = c .before .before .before .before .before .before .before .before .args in
+    let same = rest (a .bytes .now) (a .at) in
+    let short = sym (rw same at (c .before .before .before .before .digit-line .ensures)) ∙ c .before .before .before .if2 .left in
+    let long = sym (rw same at (c .before .before .digit-line2 .ensures)) ∙ c .before .if3 .left in
+    rw (c .no-frame2 .ensures, no-frame (drop (a .at) (a .bytes .now)) short long)
+
+pub read-frame-spec : {M : Type 1} → statement M
+read-frame-spec =
+    tie.close
+    (tie.spec
+    no-frame-requires
+    returns
+    sub-s
+    part-s-start
+    part-s-end
+    digit-line-requires
+    short-frame-requires
+    returns-2
+    digit-line-requires-2
+    long-frame-requires
+    returns-3
+    no-frame-requires-2
+    returns-4)

@@ -1,0 +1,247 @@
+-- What the bytes at fixed positions tell of the first line: n digits and then 0A are a line, and where neither 6 nor 10 digits stand
+-- before a 0A, the first line is no frame, however long it is. Assumes nothing.
+use Prim.Native.Nat.{ℕ, zero, suc, _+_, _<_, _≤_}
+use mathlib.Core.Path.{_≡_, refl, sym, ap, subst, _∙_}
+use mathlib.Core.Bool.{Bool, true, false, cond, _||_, _&&_, true≢false, and-true, and-false, and-eq-true-iff}
+use mathlib.Core.Option.{Option, none, some}
+use mathlib.Core.List.{List, [], _∷_}
+use native.Mathlib.Nat.{zero-add, suc-add, le-of-lt}
+use native.Mathlib.Omega.{arith}
+use lib.ListN.{length, getD, take, drop}
+use lib.Seq.{take-nil, take-take, length-take-le}
+use lib.Dec.{eqb, leb}
+use borrow.Author.Tests.{eqb-true, eq-eqb, ne-eqb}
+use Rattle.model.specs.Lists.{all}
+use Rattle.model.specs.Table.{isDigit, numberAfter, kindOf, fieldAt, Line, whole, cut, lead, lines, layoutFrame, jobFrame, soloFrame, endFrame, frameOfKind, frameOf}
+use Rattle.model.specs.Answers.{frameCase}
+use Rattle.model.specs.declared.Frame.{Frame}
+use Rattle.model.specs.declared.Refusal.{Refusal}
+use Rattle.model.specs.declared.FrameRead.{FrameRead}
+use Rattle.model.specs.declared.FrameRead.the-variants.{Read, Refused}
+use Rattle.model.specs.Table as Table
+use Rattle.frame.specs.Answer.{firstOf, firstLine, width, found, refuses, frameAnswer, lineAnswer}
+
+-- n digits and then byte 0A stand at the front
+unfoldable pub digitLine : ℕ → List ℕ → Bool
+digitLine n s = all isDigit (take n s) && eqb (getD s n 0) 10
+
+-- ---- lines and 0A
+
+pub both-true : (a b : Bool) → (a && b) ≡ true → (a ≡ true) × (b ≡ true)
+both-true a b = and-eq-true-iff a b .0
+
+-- 0A is no digit
+digit-not-end : (b : ℕ) → isDigit b ≡ true → eqb b 10 ≡ false
+unfolding isDigit
+digit-not-end b e =
+    ne-eqb b 10 (λ q. true≢false (sym e ∙ ap (λ (x : ℕ). leb 48 x && leb x 57 || leb 65 x && leb x 70) q))
+
+-- a line of n digits at the front is the first line, and the other lines are those after it
+lines-of-digits : (n : ℕ) (s : List ℕ) → all isDigit (take n s) ≡ true → getD s n 0 ≡ 10 → lines s ≡ whole (take n s) ∷ lines (drop (suc n) s)
+unfolding all lines lead
+lines-of-digits zero [] d e = absurd (omega arith)
+lines-of-digits zero (b ∷ bs) d e = rw (eq-eqb b 10 e)
+lines-of-digits (suc n) [] d e = absurd (omega arith)
+lines-of-digits (suc n) (b ∷ bs) d e =
+    let p = both-true (isDigit b) (all isDigit (take n bs)) d in
+    rw (digit-not-end b (p .0), lines-of-digits n bs (p .1) e)
+
+-- l stands at the front, with 0A after it
+record Leads (l s : List ℕ) : Type 0 where
+  front : take (length l) s ≡ l
+  end : getD s (length l) 0 ≡ 10
+
+led-by : (b : ℕ) (bs l : List ℕ) (ls : List Line) → ((l′ : List ℕ) (ls′ : List Line) → lines bs ≡ whole l′ ∷ ls′ → Leads l′ bs)
+    → (after : List Line) → lines bs ≡ after → lead b after ≡ whole l ∷ ls → Leads l (b ∷ bs)
+unfolding lead
+led-by b bs l ls ih [] e q = let z : _≡_ {A = ℕ} 0 1 = cc in absurd (omega arith)
+led-by b bs l ls ih (whole l′ ∷ ls′) e q =
+    let p : b ∷ l′ ≡ l = cc in
+    subst (λ (k : List ℕ). Leads k (b ∷ bs)) p (record { front = ap (λ (k : List ℕ). b ∷ k) (ih l′ ls′ e .front); end = ih l′ ls′ e .end })
+led-by b bs l ls ih (cut l′ ∷ ls′) e q = let z : _≡_ {A = ℕ} 0 1 = cc in absurd (omega arith)
+
+begun-by : (b : ℕ) (bs l : List ℕ) (ls : List Line) → ((l′ : List ℕ) (ls′ : List Line) → lines bs ≡ whole l′ ∷ ls′ → Leads l′ bs)
+    → (t : Bool) → eqb b 10 ≡ t → cond t (whole [] ∷ lines bs) (lead b (lines bs)) ≡ whole l ∷ ls → Leads l (b ∷ bs)
+begun-by b bs l ls ih true e q =
+    let p : _≡_ {A = List ℕ} [] l = cc in
+    subst (λ (k : List ℕ). Leads k (b ∷ bs)) p (record { front = refl; end = eqb-true b 10 e })
+begun-by b bs l ls ih false e q = led-by b bs l ls ih (lines bs) refl q
+
+-- a whole first line stands at the front, with 0A after it
+whole-line-leads : (s l : List ℕ) (ls : List Line) → lines s ≡ whole l ∷ ls → Leads l s
+unfolding lines
+whole-line-leads [] l ls q = let z : _≡_ {A = ℕ} 0 1 = cc in absurd (omega arith)
+whole-line-leads (b ∷ bs) l ls q = begun-by b bs l ls (whole-line-leads bs) (eqb b 10) refl q
+
+-- 0A stands only within the bytes
+pub end-within : (s : List ℕ) (n : ℕ) → getD s n 0 ≡ 10 → n < length s
+end-within [] n e = absurd (omega arith)
+end-within (b ∷ bs) zero e = omega arith
+end-within (b ∷ bs) (suc n) e = let h = end-within bs n e in omega arith
+
+-- ---- digits, by their number
+
+drop-take : (k m : ℕ) (l : List ℕ) → drop k (take (k + m) l) ≡ take m (drop k l)
+drop-take zero m l = rw zero-add
+drop-take (suc k) m [] = rw suc-add (sym (take-nil m))
+drop-take (suc k) m (x ∷ xs) = rw suc-add (drop-take k m xs)
+
+-- a field of the first digits is that field of the bytes
+field-of-take : (k m : ℕ) (s : List ℕ) → 4 ≤ m → fieldAt k (take (k + m) s) ≡ fieldAt k s
+field-of-take k m s h = ap (numberAfter 0) (ap (take 4) (drop-take k m s) ∙ take-take 4 m (drop k s) h)
+
+kind-of-take : (n : ℕ) (s : List ℕ) → 2 ≤ n → kindOf (take n s) ≡ kindOf s
+kind-of-take n s h = ap (numberAfter 0) (take-take 2 n s h)
+
+six-digits : (l : List ℕ) → length l ≡ 6 → frameOfKind l ≡ cond (eqb (kindOf l) 1) (some (layoutFrame (fieldAt 2 l))) none
+unfolding frameOfKind
+six-digits l e = rw e (simp (and-true, and-false))
+
+-- by its kind and its two fields
+abbrev pub longFrame : ℕ → ℕ → ℕ → Option Table.Frame
+longFrame kind first second =
+    cond (eqb kind 2) (some (jobFrame first second))
+    (cond (eqb kind 4) (some (soloFrame first second)) (cond (eqb kind 3) (some (endFrame first second)) none))
+
+ten-digits : (l : List ℕ) → length l ≡ 10 → frameOfKind l ≡ longFrame (kindOf l) (fieldAt 2 l) (fieldAt 6 l)
+unfolding frameOfKind
+ten-digits l e = rw e (simp (and-true, and-false))
+
+other-digits : (l : List ℕ) → (length l ≡ 6 → ⊥) → (length l ≡ 10 → ⊥) → frameOfKind l ≡ none
+unfolding frameOfKind
+other-digits l h k = rw (ne-eqb (length l) 6 h, ne-eqb (length l) 10 k) (simp and-false)
+
+-- ---- a line of n digits at the front
+
+module _ (n : ℕ) (s : List ℕ) (h : digitLine n s ≡ true) where
+  pub digit-line-within : n < length s
+  unfolding digitLine
+  digit-line-within = end-within s n (eqb-true (getD s n 0) 10 (both-true (all isDigit (take n s)) (eqb (getD s n 0) 10) h .1))
+
+  -- the lines after it
+  digit-line-first : lines s ≡ firstLine s ∷ lines (drop (suc n) s)
+  unfolding digitLine firstLine
+  digit-line-first =
+      let p = both-true (all isDigit (take n s)) (eqb (getD s n 0) 10) h in
+      rw (lines-of-digits n s (p .0) (eqb-true (getD s n 0) 10 (p .1)))
+
+  -- its frame
+  digit-line-frame : frameOf (firstLine s) ≡ frameOfKind (take n s)
+  unfolding digitLine firstLine frameOf
+  digit-line-frame =
+      let p = both-true (all isDigit (take n s)) (eqb (getD s n 0) 10) h in
+      rw (lines-of-digits n s (p .0) (eqb-true (getD s n 0) 10 (p .1)), p .0)
+
+-- 6 digits and 0A: a layout or no frame
+pub short-line : (s : List ℕ) → digitLine 6 s ≡ true → frameOf (firstLine s) ≡ cond (eqb (kindOf s) 1) (some (layoutFrame (fieldAt 2 s))) none
+short-line s h =
+    digit-line-frame 6 s h
+    ∙ six-digits (take 6 s) (length-take-le 6 s (le-of-lt (digit-line-within 6 s h)))
+    ∙ rw (kind-of-take 6 s (omega arith), field-of-take 2 4 s (omega arith))
+
+-- 10 digits and 0A: a job, a solo job, an end or no frame
+pub long-line : (s : List ℕ) → digitLine 10 s ≡ true → frameOf (firstLine s) ≡ longFrame (kindOf s) (fieldAt 2 s) (fieldAt 6 s)
+long-line s h =
+    digit-line-frame 10 s h
+    ∙ ten-digits (take 10 s) (length-take-le 10 s (le-of-lt (digit-line-within 10 s h)))
+    ∙ rw (kind-of-take 10 s (omega arith), field-of-take 2 8 s (omega arith), field-of-take 6 4 s (omega arith))
+
+-- ---- no such line
+
+line-length : (s l : List ℕ) (ls : List Line) (n : ℕ) → lines s ≡ whole l ∷ ls → all isDigit l ≡ true → length l ≡ n → digitLine n s ≡ true
+unfolding digitLine
+line-length s l ls n e d q =
+    let p = whole-line-leads s l ls e in
+    let front : take n s ≡ l = subst (λ (k : ℕ). take k s ≡ l) q (p .front) in
+    let end : getD s n 0 ≡ 10 = subst (λ (k : ℕ). getD s k 0 ≡ 10) q (p .end) in
+    rw (front, d, eq-eqb (getD s n 0) 10 end)
+
+no-frame-in : (s : List ℕ) → digitLine 6 s ≡ false → digitLine 10 s ≡ false → (ls : List Line) → lines s ≡ ls → frameOf (firstOf ls) ≡ none
+unfolding frameOf
+no-frame-in s short long [] e = refl
+no-frame-in s short long (cut l ∷ ls) e = refl
+no-frame-in s short long (whole l ∷ ls) e = go (all isDigit l) refl
+  where
+    go : (t : Bool) → all isDigit l ≡ t → cond t (frameOfKind l) none ≡ none
+    go false d = refl
+    go true d =
+        other-digits l
+        (λ q. true≢false (sym (line-length s l ls 6 e d q) ∙ short))
+        (λ q. true≢false (sym (line-length s l ls 10 e d q) ∙ long))
+
+-- neither 6 nor 10 digits and 0A at the front: no frame, however long the first line is
+pub no-frame : (s : List ℕ) → digitLine 6 s ≡ false → digitLine 10 s ≡ false → frameOf (firstLine s) ≡ none
+unfolding firstLine
+no-frame s short long = no-frame-in s short long (lines s) refl
+
+-- ---- the lines after the first
+
+-- after the line of a frame come the lines of the bytes past it
+pub record NextLine (s : List ℕ) (f : Table.Frame) : Type 0 where
+  pub within : width f ≤ length s
+  pub after : lines s ≡ firstLine s ∷ lines (drop (width f) s)
+
+next-of : (n : ℕ) (s : List ℕ) (f : Table.Frame) → digitLine n s ≡ true → width f ≡ suc n → NextLine s f
+next-of n s f h e = record { within = rw e (digit-line-within n s h); after = rw e (digit-line-first n s h) }
+
+short-width : (t : Bool) (p : ℕ) (f : Table.Frame) → cond t (some (layoutFrame p)) none ≡ some f → width f ≡ 7
+short-width true p f e = let q : layoutFrame p ≡ f = cc in ap width (sym q)
+short-width false p f e = let z : _≡_ {A = ℕ} 0 1 = cc in absurd (omega arith)
+
+long-width : (t u v : Bool) (p q : ℕ) (f : Table.Frame)
+    → cond t (some (jobFrame p q)) (cond u (some (soloFrame p q)) (cond v (some (endFrame p q)) none)) ≡ some f → width f ≡ 11
+long-width true u v p q f e = let q : jobFrame p q ≡ f = cc in ap width (sym q)
+long-width false true v p q f e = let q : soloFrame p q ≡ f = cc in ap width (sym q)
+long-width false false true p q f e = let q : endFrame p q ≡ f = cc in ap width (sym q)
+long-width false false false p q f e = let z : _≡_ {A = ℕ} 0 1 = cc in absurd (omega arith)
+
+pub next-line : (s : List ℕ) (f : Table.Frame) → frameOf (firstLine s) ≡ some f → NextLine s f
+next-line s f e = short (digitLine 6 s) refl
+  where
+    long : (t : Bool) → digitLine 6 s ≡ false → digitLine 10 s ≡ t → NextLine s f
+    long true a b =
+        next-of 10 s f b (long-width (eqb (kindOf s) 2) (eqb (kindOf s) 4) (eqb (kindOf s) 3) (fieldAt 2 s) (fieldAt 6 s) f (sym (long-line s b) ∙ e))
+    long false a b = let n = no-frame s a b in let z : _≡_ {A = ℕ} 0 1 = cc in absurd (omega arith)
+
+    short : (t : Bool) → digitLine 6 s ≡ t → NextLine s f
+    short true a = next-of 6 s f a (short-width (eqb (kindOf s) 1) (fieldAt 2 s) f (sym (short-line s a) ∙ e))
+    short false a = long (digitLine 10 s) a refl
+
+lead-first : (b : ℕ) (ls : List Line) → (rest : List Line) × (lead b ls ≡ firstOf (lead b ls) ∷ rest)
+unfolding lead
+lead-first b [] = ([], refl)
+lead-first b (whole l ∷ ls) = (ls, refl)
+lead-first b (cut l ∷ ls) = (ls, refl)
+
+-- where bytes are left there is a first line
+pub some-line : (s : List ℕ) → 0 < length s → (rest : List Line) × (lines s ≡ firstLine s ∷ rest)
+unfolding lines firstLine
+some-line [] h = absurd (omega arith)
+some-line (b ∷ bs) h = go (eqb b 10)
+  where
+    go : (t : Bool) → (rest : List Line) × (cond t (whole [] ∷ lines bs) (lead b (lines bs)) ≡ firstOf (cond t (whole [] ∷ lines bs) (lead b (lines bs))) ∷ rest)
+    go true = (lines bs, refl)
+    go false = lead-first b (lines bs)
+
+-- ---- what the answer of a line tells of it
+
+pub frame-answered : (r : FrameRead) (f : Frame) (line : ℕ) (o : Option Table.Frame) → frameAnswer r ≡ lineAnswer line o → r ≡ Read f → o ≡ some (frameCase f)
+frame-answered r f line none e q =
+    let z : found (frameCase f) ≡ refuses 1 line = ap frameAnswer (sym q) ∙ e in
+    let apart : _≡_ {A = ℕ} 0 1 = cc in
+    absurd (omega arith)
+frame-answered r f line (some g) e q = let z : found (frameCase f) ≡ found g = ap frameAnswer (sym q) ∙ e in cc
+
+pub record NoFrame (x : Refusal) (line : ℕ) (o : Option Table.Frame) : Type 0 where
+  pub none-there : o ≡ none
+  pub number-one : x .number ≡ 1
+  pub own-line : x .place ≡ line
+
+pub refusal-answered : (r : FrameRead) (x : Refusal) (line : ℕ) (o : Option Table.Frame) → frameAnswer r ≡ lineAnswer line o → r ≡ Refused x → NoFrame x line o
+refusal-answered r x line none e q =
+    let z : refuses (x .number) (x .place) ≡ refuses 1 line = ap frameAnswer (sym q) ∙ e in
+    record { none-there = refl; number-one = cc; own-line = cc }
+refusal-answered r x line (some g) e q =
+    let z : refuses (x .number) (x .place) ≡ found g = ap frameAnswer (sym q) ∙ e in
+    let apart : _≡_ {A = ℕ} 0 1 = cc in
+    absurd (omega arith)
