@@ -10,3 +10,5 @@ pub mod RunningOrder
 pub mod Compatible
 pub mod Partners
 pub mod Demand
+pub mod Singles
+pub mod Foremost

@@ -13,6 +13,8 @@ use Rattle.model.specs.declared.Settled.{Settled}
 use Rattle.model.specs.declared.Settled.the-variants as settled
 use Rattle.model.specs.declared.TableRead.{TableRead}
 use Rattle.model.specs.declared.TableRead.the-variants as table-read
+use Rattle.model.specs.declared.Planned.{Planned}
+use Rattle.model.specs.declared.Planned.the-variants as planned
 
 -- a frame read, as the table's line has it: 01 P, 02 T B, 04 T B, 03 N M
 abbrev pub frameCase : Frame → Table.Frame
@@ -30,3 +32,8 @@ settledAnswer (settled.Refused r) = refuses (r .number) (r .place)
 abbrev pub tableAnswer : TableRead → Answer
 tableAnswer (table-read.Read c) = gives (c .layouts ∷ c .jobs ∷ [])
 tableAnswer (table-read.Refused r) = refuses (r .number) (r .place)
+
+-- planning gives pairs, singles and cell count, or refuses
+abbrev pub plannedAnswer : Planned → Answer
+plannedAnswer (planned.Done t) = gives (t .pairs ∷ t .singles ∷ t .visits ∷ [])
+plannedAnswer (planned.Refused r) = refuses (r .number) (r .place)

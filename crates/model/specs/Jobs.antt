@@ -16,6 +16,10 @@ pub record Table : Type 0 where
   pub bottoms : List ℕ
   pub marks : List ℕ
 
+-- a table by its columns
+abbrev pub tableOf : List ℕ → List ℕ → List ℕ → List ℕ → Table
+tableOf ps ts bs ms = record { parents = ps; tops = ts; bottoms = bs; marks = ms }
+
 -- at most 4,096 jobs
 abbrev pub jobLimit : ℕ
 jobLimit = 4096

@@ -2,15 +2,19 @@
 -- Assumes nothing.
 use Prim.Native.Nat.{ℕ}
 use mathlib.Core.Path.{_≡_}
-use mathlib.Core.List.{List, []}
-use lib.ListN.{length}
-use Rattle.model.specs.Verdict.{Verdict, answer}
+use mathlib.Core.List.{List, [], _∷_, _++_}
+use lib.ListN.{length, drop, replicate}
+use Rattle.model.specs.Verdict.{Verdict, accepted, answer, lent}
 use Rattle.model.specs.Tree.{FFFF, depth, firstLeaf, lastLeaf, settleVerdict, settledCells}
-use Rattle.model.specs.Jobs.{Table}
+use Rattle.model.specs.Jobs.{Table, jobs, tableOf}
+use Rattle.model.specs.Visits.{cellCount}
+use Rattle.model.specs.Rival.{Foremost}
+use Rattle.model.specs.Planning as Planning
 use Rattle.model.specs.Table.{Reading, readTable, tableRead, buffersVerdict, readAnswer, readCells}
-use Rattle.model.specs.Answers.{settledAnswer, tableAnswer}
+use Rattle.model.specs.Answers.{settledAnswer, tableAnswer, plannedAnswer}
 use Rattle.model.specs.declared.Settled.{Settled}
 use Rattle.model.specs.declared.TableRead.{TableRead}
+use Rattle.model.specs.declared.Planned.{Planned}
 
 -- *Settle layouts* under its verdict v: depth, first leaf and last leaf of each layout
 pub record SettledAs (v : Verdict) (parents depths firsts lasts : List ℕ) (r : Settled) (depths′ firsts′ lasts′ : List ℕ) : Type 0 where
@@ -34,3 +38,15 @@ pub record ReadAs (v : Verdict) (t : Reading) (parents tops bottoms marks : List
 abbrev pub ReadOutcome : List ℕ → List ℕ → List ℕ → List ℕ → List ℕ → TableRead → List ℕ → List ℕ → List ℕ → List ℕ → Type 0
 ReadOutcome bytes parents tops bottoms marks =
     ReadAs (buffersVerdict (length parents) (length tops) (length bottoms) (length marks)) (readTable bytes) parents tops bottoms marks
+
+-- *Plan* under its verdict v: partners, layouts, totals and work cells, and, if it accepts, that no rival plan beats what was handed back
+pub record PlannedAs (v : Verdict) (tb : Table) (partners layouts work : List ℕ) (r : Planned) (partners′ layouts′ work′ : List ℕ) : Type 0 where
+  pub answered : plannedAnswer r ≡ answer v (Planning.pairs tb ∷ Planning.singles tb ∷ cellCount tb ∷ [])
+  pub partners-hold : partners′ ≡ lent v partners (Planning.partners tb ++ drop (jobs tb) partners)
+  pub layouts-hold : layouts′ ≡ lent v layouts (Planning.layouts tb ++ drop (jobs tb) layouts)
+  pub work-holds : work′ ≡ lent v work (replicate Planning.workCells 0 ++ drop Planning.workCells work)
+  pub foremost : v ≡ accepted → Foremost tb partners′ (Planning.pairs tb) (Planning.singles tb)
+
+abbrev pub PlanOutcome : List ℕ → List ℕ → List ℕ → List ℕ → List ℕ → List ℕ → List ℕ → Planned → List ℕ → List ℕ → List ℕ → Type 0
+PlanOutcome parents tops bottoms marks partners layouts work =
+    PlannedAs (Planning.planVerdict (tableOf parents tops bottoms marks) (length partners) (length layouts) (length work)) (tableOf parents tops bottoms marks) partners layouts work

@@ -1,13 +1,13 @@
 -- Rival plans and the cut (document 01). A plan is here a set of pairs of job numbers: a matching.
 -- Assumes nothing.
-use Prim.Native.Nat.{ℕ, _<_}
+use Prim.Native.Nat.{ℕ, _+_, _-_, _*_, _<_, _≤_}
 use mathlib.Core.Path.{_≡_}
 use mathlib.Core.Logic.{_≢_}
-use mathlib.Core.Bool.{Bool, cond, not, _&&_}
+use mathlib.Core.Bool.{Bool, not, _&&_, _||_}
 use mathlib.Core.List.{List, [], _∷_, map}
-use lib.ListN.{getD}
-use lib.Dec.{T, ltb}
-use Rattle.model.specs.Lists.{numbers, All, Pairwise, count, select}
+use lib.ListN.{length, getD}
+use lib.Dec.{T, eqb, ltb}
+use Rattle.model.specs.Lists.{numbers, All, Pairwise, any, count, select}
 use Rattle.model.specs.Tree.{FFFF}
 use Rattle.model.specs.Jobs.{Table, jobs, solo, shares}
 use Rattle.model.specs.Order.{place}
@@ -51,3 +51,24 @@ unfoldable pub pairsOf : ℕ → List ℕ → List Pair
 pairsOf m partners =
     map (λ (i : ℕ). record { one = i; other = getD partners i FFFF })
     (select (λ (i : ℕ). ltb i (getD partners i FFFF) && ltb (getD partners i FFFF) m) (numbers m))
+
+-- the job stands in one of the pairs
+unfoldable pub inPair : List Pair → ℕ → Bool
+inPair ps j = any (λ (p : Pair). eqb j (p .one) || eqb j (p .other)) ps
+
+-- the singles of a plan are the jobs in no pair, and its passes are its pairs and its singles
+unfoldable pub singlesOf : Table → List Pair → ℕ
+singlesOf tb ps = count (λ (j : ℕ). not (inPair ps j)) (numbers (jobs tb))
+
+unfoldable pub passesOf : Table → List Pair → ℕ
+passesOf tb ps = length ps + singlesOf tb ps
+
+-- a plan that no rival beats at any cut: it stands in the partner buffer, and `pairs` and `singles` are given back with it
+pub record Foremost (tb : Table) (partners : List ℕ) (pairs singles : ℕ) : Type 0 where
+  pub back : (i j : ℕ) → i < jobs tb → j < jobs tb → getD partners i FFFF ≡ j → getD partners j FFFF ≡ i
+  pub keeps-rules : Rival tb (pairsOf (jobs tb) partners)
+  pub every-cut : (rival : List Pair) → Rival tb rival → (m : ℕ) → m ≤ jobs tb → pairsInFront tb m rival ≤ pairsInFront tb m (pairsOf (jobs tb) partners)
+  pub all-in-front : pairsInFront tb (jobs tb) (pairsOf (jobs tb) partners) ≡ pairs
+  pub singles-are : singles ≡ jobs tb - 2 * pairs
+  pub singles-alone : singles ≡ singlesOf tb (pairsOf (jobs tb) partners)
+  pub passes-are : (ps : List Pair) → Rival tb ps → passesOf tb ps ≡ jobs tb - length ps

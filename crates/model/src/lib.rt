@@ -59,3 +59,16 @@ pub enum TableRead {
     Read(Counts),
     Refused(Refusal),
 }
+
+// What a plan comes to: its pairs, its singles, and the cells that its lookups visited.
+pub struct Totals {
+    pub pairs: u16,
+    pub singles: u16,
+    pub visits: u32,
+}
+
+// What planning answers.
+pub enum Planned {
+    Done(Totals),
+    Refused(Refusal),
+}
