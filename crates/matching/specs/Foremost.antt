@@ -18,9 +18,9 @@ use Rattle.tree.specs.Lists.{answers, mem-all}
 use Rattle.tree.specs.Numbers.{numbers-mem, numbers-length}
 use Rattle.tree.specs.WellFormed.{Tree}
 use Rattle.tree.specs.Sharing.{Downward}
-use Rattle.matching.specs.Partners.{partners-symmetric, our-pairs, our-pairs-all, singles-are}
+use Rattle.matching.specs.Partners.{partner-apart, partners-symmetric, our-pairs, our-pairs-all, singles-are}
 use Rattle.matching.specs.Demand.{maximum-at-every-cut}
-use Rattle.matching.specs.Singles.{our-singles, rival-passes}
+use Rattle.matching.specs.Singles.{our-singles, our-passes, rival-passes}
 
 -- the pairs that cells f show at the numbers l, each by its smaller number, both below n
 abbrev shownBy : (ℕ → ℕ) → ℕ → List ℕ → List Pair
@@ -66,6 +66,7 @@ pub foremost :
     → (rest : List ℕ)
     → Foremost tb (partners tb ++ rest) (pairs tb) (singles tb)
 foremost tb t down small rest = record {
+  apart = λ i h e. partner-apart tb small i h (sym (partners-front tb rest i h) ∙ e);
   back = λ i j h k e. partners-front tb rest j k ∙ partners-symmetric tb small i j h k (sym (partners-front tb rest i h) ∙ e);
   keeps-rules = rw (pairs-front tb rest) (our-pairs tb small);
   every-cut = λ rival r m h. rw (pairs-front tb rest) (maximum-at-every-cut tb t down small rival r m);
@@ -73,4 +74,5 @@ foremost tb t down small rest = record {
   singles-are = singles-are tb;
   singles-alone = rw (pairs-front tb rest) (our-singles tb small);
   passes-are = rival-passes tb;
+  our-passes = rw (pairs-front tb rest) (our-passes tb small);
 }

@@ -289,6 +289,15 @@ module _ (tb : Table) where
     pub partners-symmetric : (i j : ℕ) → i < jobs tb → j < jobs tb → getD (partners tb) i FFFF ≡ j → getD (partners tb) j FFFF ≡ i
     partners-symmetric i j h k e = rw (← e) (partner-cells i h (rw e k))
 
+    -- and a job is not its own partner
+    pub partner-apart : (i : ℕ) → i < jobs tb → getD (partners tb) i FFFF ≢ i
+    partner-apart i h e =
+        let self : partnerIn (passes tb) i ≡ i = sym (partner-cell i h) ∙ e in
+        ⊎-elim not-both not-both (rw (← ap (Joined (passes tb) i) self) (partner-joined (passes tb) i (present i h (rw e h))))
+      where
+        not-both : Mem (record { one = i; other = i }) (pairsIn (passes tb)) → ⊥
+        not-both m = omega (arith, all-member (λ (p : Pair). place tb (p .one) < place tb (p .other)) passes-places m)
+
     -- such two jobs are compatible
     pub cell-compatible : (i : ℕ) → i < jobs tb → getD (partners tb) i FFFF < jobs tb → compatible tb i (getD (partners tb) i FFFF) ≡ true
     cell-compatible i h k = rw (partner-cell i h) (⊎-elim

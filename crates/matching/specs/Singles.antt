@@ -13,7 +13,7 @@ use borrow.Author.Tests.{eq-eqb, ne-eqb}
 use Rattle.model.specs.Lists.{numbers, count, any, All, Pairwise}
 use Rattle.model.specs.Jobs.{Table, jobs, jobLimit}
 use Rattle.model.specs.Rival.{Pair, Disjoint, Rules, Rival, pairsOf, inPair, singlesOf, passesOf}
-use Rattle.model.specs.Planning.{partners, singles}
+use Rattle.model.specs.Planning.{partners, pairs, singles}
 use Rattle.tree.specs.Numbers.{mem-numbers, numbers-distinct, numbers-length}
 use Rattle.matching.specs.Lists.{all-imply}
 use Rattle.matching.specs.Counting.{count-at, count-length-all}
@@ -98,3 +98,8 @@ rival-passes tb ps rival = omega (arith, singles-and-pairs tb ps rival)
 -- our singles are the jobs that the partner buffer leaves in no pair
 pub our-singles : (tb : Table) → jobs tb ≤ jobLimit → singles tb ≡ singlesOf tb (pairsOf (jobs tb) (partners tb))
 our-singles tb small = omega (arith, jobs-counted tb, our-pairs-length tb small, singles-and-pairs tb (pairsOf (jobs tb) (partners tb)) (our-pairs tb small))
+
+-- and our passes are the pairs and singles given back
+pub our-passes : (tb : Table) → jobs tb ≤ jobLimit → passesOf tb (pairsOf (jobs tb) (partners tb)) ≡ pairs tb + singles tb
+unfolding passesOf
+our-passes tb small = omega (arith, our-pairs-length tb small, our-singles tb small)

@@ -12,13 +12,13 @@ use Rattle.model.specs.Jobs.{Table, solo, upTo, pathFrom, path, shares, 
 use Rattle.model.specs.Order.{earlier, runningOrder, place, leftward, slotOrder, slot}
 use Rattle.model.specs.Greedy.{Pass, pair, single, without, turn, turns, greedy, compatible, passes}
 use Rattle.model.specs.Visits.{levelsFrom, levels, cellVisits, visits, askedFrom, askedTo, lookupVisits, passVisits, cellCount}
-use Rattle.model.specs.Planning.{workCells, lentVerdict, jobsVerdict, planVerdict, partnerIn, pairCount, singleCount, printed, pairs, singles}
+use Rattle.model.specs.Planning.{workCells, lentVerdict, jobsVerdict, planVerdict, partnerIn, pairCount, singleCount, partners, printed, layouts, pairs, singles}
 use Rattle.model.specs.Table.{Reading, read, stopped, isDigit, digitValue, numberAfter, lead, lines, frameOfKind, frameOf, isEnd, outOfOrder, contentVerdict, frameVerdict, extended, unlessRefused, readFrame, readLines, readTable}
 use Rattle.model.specs.Output.{digit, hex, line, passLine, totalsLine, planBytes, refusalBytes, readingBytes, runBytes}
 
--- a plan's passes, `I J L` or `I`, with its totals; or a refusal's number and place
+-- a plan's passes, `I J L` or `I`, its partners and layouts by job, and its totals; or a refusal's number and place
 data Outcome : Type 0 where
-  plans : List (List ℕ) → ℕ → ℕ → ℕ → Outcome
+  plans : List (List ℕ) → List ℕ → List ℕ → ℕ → ℕ → ℕ → Outcome
   turnsAway : ℕ → ℕ → Outcome
 
 passNumbers : Table → Pass → List ℕ
@@ -26,7 +26,7 @@ passNumbers tb (pair i j) = i ∷ j ∷ printed tb i ∷ []
 passNumbers tb (single i) = i ∷ []
 
 outcome : Table → Verdict → Outcome
-outcome tb accepted = plans (map (passNumbers tb) (passes tb)) (pairs tb) (singles tb) (cellCount tb)
+outcome tb accepted = plans (map (passNumbers tb) (passes tb)) (partners tb) (layouts tb) (pairs tb) (singles tb) (cellCount tb)
 outcome tb (refused number place) = turnsAway number place
 
 -- a job as top-bottom
@@ -71,25 +71,25 @@ bakehouse =
     record {
       parents = F ∷ 0 ∷ 0 ∷ 1 ∷ [];
       jobs = 0 - 3 ∷ 1 - 3 ∷ 2 - 2 ∷ 0 - 2 ∷ 3 - 3 ∷ [];
-      expected = plans ((4 ∷ 1 ∷ 3 ∷ []) ∷ (2 ∷ 3 ∷ 2 ∷ []) ∷ (0 ∷ []) ∷ []) 2 1 0x19;
+      expected = plans ((4 ∷ 1 ∷ 3 ∷ []) ∷ (2 ∷ 3 ∷ 2 ∷ []) ∷ (0 ∷ []) ∷ []) (F ∷ 4 ∷ 3 ∷ 2 ∷ 1 ∷ []) (F ∷ 3 ∷ 2 ∷ 2 ∷ 3 ∷ []) 2 1 0x19;
     }
 
 examples : List Example
 examples =
-    record { parents = F ∷ []; jobs = []; expected = plans [] 0 0 0 }
-    ∷ record { parents = F ∷ []; jobs = 0 - 0 ∷ []; expected = plans ((0 ∷ []) ∷ []) 0 1 1 }
-    ∷ record { parents = F ∷ []; jobs = 0 - 0 ∷ 0 - 0 ∷ []; expected = plans ((0 ∷ 1 ∷ 0 ∷ []) ∷ []) 1 0 1 }
-    ∷ record { parents = F ∷ []; jobs = 0 - 0 ∷ 0 solo 0 ∷ []; expected = plans ((0 ∷ []) ∷ (1 ∷ []) ∷ []) 0 2 1 }
-    ∷ record { parents = F ∷ 0 ∷ []; jobs = 0 - 0 ∷ 1 - 1 ∷ []; expected = plans ((1 ∷ []) ∷ (0 ∷ []) ∷ []) 0 2 2 }
+    record { parents = F ∷ []; jobs = []; expected = plans [] [] [] 0 0 0 }
+    ∷ record { parents = F ∷ []; jobs = 0 - 0 ∷ []; expected = plans ((0 ∷ []) ∷ []) (F ∷ []) (F ∷ []) 0 1 1 }
+    ∷ record { parents = F ∷ []; jobs = 0 - 0 ∷ 0 - 0 ∷ []; expected = plans ((0 ∷ 1 ∷ 0 ∷ []) ∷ []) (1 ∷ 0 ∷ []) (0 ∷ 0 ∷ []) 1 0 1 }
+    ∷ record { parents = F ∷ []; jobs = 0 - 0 ∷ 0 solo 0 ∷ []; expected = plans ((0 ∷ []) ∷ (1 ∷ []) ∷ []) (F ∷ F ∷ []) (F ∷ F ∷ []) 0 2 1 }
+    ∷ record { parents = F ∷ 0 ∷ []; jobs = 0 - 0 ∷ 1 - 1 ∷ []; expected = plans ((1 ∷ []) ∷ (0 ∷ []) ∷ []) (F ∷ F ∷ []) (F ∷ F ∷ []) 0 2 2 }
     ∷ record {
       parents = F ∷ 0 ∷ 0 ∷ [];
       jobs = 0 - 1 ∷ 0 - 2 ∷ 1 - 1 ∷ 2 - 2 ∷ [];
-      expected = plans ((2 ∷ 0 ∷ 1 ∷ []) ∷ (3 ∷ 1 ∷ 2 ∷ []) ∷ []) 2 0 6;
+      expected = plans ((2 ∷ 0 ∷ 1 ∷ []) ∷ (3 ∷ 1 ∷ 2 ∷ []) ∷ []) (2 ∷ 3 ∷ 0 ∷ 1 ∷ []) (1 ∷ 2 ∷ 1 ∷ 2 ∷ []) 2 0 6;
     }
     ∷ record {
       parents = F ∷ 0 ∷ [];
       jobs = 1 - 1 ∷ 1 - 1 ∷ 0 - 1 ∷ 0 - 0 ∷ [];
-      expected = plans ((0 ∷ 1 ∷ 1 ∷ []) ∷ (2 ∷ 3 ∷ 0 ∷ []) ∷ []) 2 0 2;
+      expected = plans ((0 ∷ 1 ∷ 1 ∷ []) ∷ (2 ∷ 3 ∷ 0 ∷ []) ∷ []) (1 ∷ 0 ∷ 3 ∷ 2 ∷ []) (1 ∷ 1 ∷ 0 ∷ 0 ∷ []) 2 0 2;
     }
     ∷ bakehouse
     ∷ record { parents = F ∷ 1 ∷ []; jobs = []; expected = turnsAway 4 1 }
@@ -97,5 +97,5 @@ examples =
     ∷ []
 
 examples-hold : map planned examples ≡ map (λ (e : Example). e .expected) examples
-unfolding numbersFrom numbers elem indexOf lastD any all select count find total insertBy sortBy rightParent layoutsFrom treeVerdict climb chain above depth children orSelf leavesWithin leaves firstLeaf lastLeaf solo upTo pathFrom path shares deepestShared topDepth bottomLeaf jobVerdict earlier runningOrder place leftward slotOrder slot without turn turns greedy compatible passes levelsFrom levels cellVisits visits askedFrom askedTo lookupVisits passVisits cellCount lentVerdict jobsVerdict planVerdict partnerIn pairCount singleCount printed pairs singles passNumbers outcome _-_ _solo_ tableOf planned F bakehouse examples flatMap headD
+unfolding numbersFrom numbers elem indexOf lastD any all select count find total insertBy sortBy rightParent layoutsFrom treeVerdict climb chain above depth children orSelf leavesWithin leaves firstLeaf lastLeaf solo upTo pathFrom path shares deepestShared topDepth bottomLeaf jobVerdict earlier runningOrder place leftward slotOrder slot without turn turns greedy compatible passes levelsFrom levels cellVisits visits askedFrom askedTo lookupVisits passVisits cellCount lentVerdict jobsVerdict planVerdict partnerIn pairCount singleCount partners printed layouts pairs singles passNumbers outcome _-_ _solo_ tableOf planned F bakehouse examples flatMap headD
 examples-hold = refl

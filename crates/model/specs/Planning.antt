@@ -46,7 +46,7 @@ partnerIn [] j = FFFF
 partnerIn (single i ∷ ps) j = partnerIn ps j
 partnerIn (pair i k ∷ ps) j = cond (eqb i j) k (cond (eqb k j) i (partnerIn ps j))
 
--- two in a pair, one alone
+-- a pass is one pair or one single
 unfoldable pub pairCount : Pass → ℕ
 pairCount (pair i j) = 1
 pairCount (single i) = 0

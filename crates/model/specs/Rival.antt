@@ -65,6 +65,7 @@ passesOf tb ps = length ps + singlesOf tb ps
 
 -- a plan that no rival beats at any cut: it stands in the partner buffer, and `pairs` and `singles` are given back with it
 pub record Foremost (tb : Table) (partners : List ℕ) (pairs singles : ℕ) : Type 0 where
+  pub apart : (i : ℕ) → i < jobs tb → getD partners i FFFF ≢ i
   pub back : (i j : ℕ) → i < jobs tb → j < jobs tb → getD partners i FFFF ≡ j → getD partners j FFFF ≡ i
   pub keeps-rules : Rival tb (pairsOf (jobs tb) partners)
   pub every-cut : (rival : List Pair) → Rival tb rival → (m : ℕ) → m ≤ jobs tb → pairsInFront tb m rival ≤ pairsInFront tb m (pairsOf (jobs tb) partners)
@@ -72,3 +73,4 @@ pub record Foremost (tb : Table) (partners : List ℕ) (pairs singles : ℕ) : T
   pub singles-are : singles ≡ jobs tb - 2 * pairs
   pub singles-alone : singles ≡ singlesOf tb (pairsOf (jobs tb) partners)
   pub passes-are : (ps : List Pair) → Rival tb ps → passesOf tb ps ≡ jobs tb - length ps
+  pub our-passes : passesOf tb (pairsOf (jobs tb) partners) ≡ pairs + singles

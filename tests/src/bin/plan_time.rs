@@ -1,0 +1,45 @@
+//! How long *Plan* takes on full tables (4,096 jobs, 1,024 layouts), by the tree's shape and the
+//! jobs' reach, and how the time grows with the jobs. It prints and judges nothing.
+
+use std::time::{Duration, Instant};
+use tests::library;
+use tests::made::tables::{table_of_shape, Reach, Shape, Size, SHAPES};
+use tests::made::Generator;
+use tests::reference::{Table, JOB_LIMIT, LAYOUT_LIMIT, WORK_CELLS};
+
+const CALLS: usize = 101;
+
+fn main() {
+    for shape in SHAPES {
+        for reach in [Reach::Any, Reach::Short, Reach::Whole, Reach::Point] {
+            println!("{shape:?}, {reach:?}: {}", times(shape, reach));
+        }
+    }
+}
+
+/// The middle time of a call for 64, 512 and 4,096 jobs.
+fn times(shape: Shape, reach: Reach) -> String {
+    let of_size = |jobs| {
+        let layouts = LAYOUT_LIMIT;
+        let table = table_of_shape(shape, reach, Size { layouts, jobs }, &mut Generator::new(1));
+        format!("{jobs} jobs {} µs", middle_time(&table).as_micros())
+    };
+    [64, 512, JOB_LIMIT].map(of_size).join(", ")
+}
+
+fn middle_time(table: &Table) -> Duration {
+    let mut partners = vec![0; table.jobs()];
+    let mut layouts = partners.clone();
+    let mut work = vec![0; WORK_CELLS];
+    let mut times: Vec<Duration> = (0..CALLS)
+        .map(|_| {
+            let start = Instant::now();
+            let answer = library::plan(table, &mut partners, &mut layouts, &mut work);
+            let time = start.elapsed();
+            answer.expect("a whole table is planned");
+            time
+        })
+        .collect();
+    times.sort();
+    times[CALLS / 2]
+}

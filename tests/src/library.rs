@@ -1,0 +1,173 @@
+//! The proved operations, through the static library of the crate `harness`. None of them asks
+//! anything of its caller, so each wrapper only takes the packed answer apart.
+
+use crate::reference::plan;
+use crate::reference::table::Counts;
+use crate::reference::{Refusal, Table};
+
+extern "C" {
+    fn harness_read(
+        bytes: *const u8,
+        bytes_length: usize,
+        parents: *mut u16,
+        parents_length: usize,
+        tops: *mut u16,
+        tops_length: usize,
+        bottoms: *mut u16,
+        bottoms_length: usize,
+        marks: *mut u8,
+        marks_length: usize,
+    ) -> u64;
+
+    fn harness_settle(
+        parents: *const u16,
+        parents_length: usize,
+        depths: *mut u16,
+        depths_length: usize,
+        firsts: *mut u16,
+        firsts_length: usize,
+        lasts: *mut u16,
+        lasts_length: usize,
+    ) -> u32;
+
+    fn harness_stretch(
+        first: *const u16,
+        first_length: usize,
+        second: *const u16,
+        second_length: usize,
+        out: *mut u16,
+        out_length: usize,
+    ) -> usize;
+
+    fn harness_plan(
+        parents: *const u16,
+        parents_length: usize,
+        tops: *const u16,
+        tops_length: usize,
+        bottoms: *const u16,
+        bottoms_length: usize,
+        marks: *const u8,
+        marks_length: usize,
+        partners: *mut u16,
+        partners_length: usize,
+        layouts: *mut u16,
+        layouts_length: usize,
+        work: *mut u16,
+        work_length: usize,
+        pairs: *mut u16,
+        singles: *mut u16,
+        visits: *mut u32,
+    ) -> u32;
+}
+
+/// *Read a table*.
+pub fn read(
+    bytes: &[u8],
+    parents: &mut [u16],
+    tops: &mut [u16],
+    bottoms: &mut [u16],
+    marks: &mut [u8],
+) -> Result<Counts, Refusal> {
+    let answer = unsafe {
+        harness_read(
+            bytes.as_ptr(),
+            bytes.len(),
+            parents.as_mut_ptr(),
+            parents.len(),
+            tops.as_mut_ptr(),
+            tops.len(),
+            bottoms.as_mut_ptr(),
+            bottoms.len(),
+            marks.as_mut_ptr(),
+            marks.len(),
+        )
+    };
+    let upper = (answer >> 32) as u32;
+    unpacked(upper).map(|()| Counts {
+        layouts: (answer >> 16) as u16,
+        jobs: answer as u16,
+    })
+}
+
+/// *Settle layouts*.
+pub fn settle(
+    parents: &[u16],
+    depths: &mut [u16],
+    firsts: &mut [u16],
+    lasts: &mut [u16],
+) -> Result<(), Refusal> {
+    let answer = unsafe {
+        harness_settle(
+            parents.as_ptr(),
+            parents.len(),
+            depths.as_mut_ptr(),
+            depths.len(),
+            firsts.as_mut_ptr(),
+            firsts.len(),
+            lasts.as_mut_ptr(),
+            lasts.len(),
+        )
+    };
+    unpacked(answer)
+}
+
+/// *Shared stretch*: its length; its numbers stand in `out`, as far as there is room.
+pub fn stretch(first: &[u16], second: &[u16], out: &mut [u16]) -> usize {
+    unsafe {
+        harness_stretch(
+            first.as_ptr(),
+            first.len(),
+            second.as_ptr(),
+            second.len(),
+            out.as_mut_ptr(),
+            out.len(),
+        )
+    }
+}
+
+/// *Plan*.
+pub fn plan(
+    table: &Table,
+    partners: &mut [u16],
+    layouts: &mut [u16],
+    work: &mut [u16],
+) -> Result<plan::Counts, Refusal> {
+    let mut counts = plan::Counts {
+        pairs: 0,
+        singles: 0,
+        visits: 0,
+    };
+    let answer = unsafe {
+        harness_plan(
+            table.parents.as_ptr(),
+            table.parents.len(),
+            table.tops.as_ptr(),
+            table.tops.len(),
+            table.bottoms.as_ptr(),
+            table.bottoms.len(),
+            table.marks.as_ptr(),
+            table.marks.len(),
+            partners.as_mut_ptr(),
+            partners.len(),
+            layouts.as_mut_ptr(),
+            layouts.len(),
+            work.as_mut_ptr(),
+            work.len(),
+            &mut counts.pairs,
+            &mut counts.singles,
+            &mut counts.visits,
+        )
+    };
+    unpacked(answer).map(|()| counts)
+}
+
+/// 0 for done, else number × 65536 + place.
+fn unpacked(answer: u32) -> Result<(), Refusal> {
+    match answer {
+        0 => Ok(()),
+        _ => Err(Refusal {
+            number: (answer >> 16) as u16,
+            place: answer as u16,
+        }),
+    }
+}

@@ -1,0 +1,310 @@
+//! *Plan* beside the quadratic implementation, and its pairs beside exhaustive search at every cut
+//! (document 01, "What each operation turns away" and "Rival plans and the cut"). The planner is a
+//! parameter, so that the checks can be tried on wrong ones.
+
+use crate::examples::{marked, Example, Said};
+use crate::lent::Lent;
+use crate::made::tables::{any_parents, path, table, table_of_size, Reach, Size};
+use crate::made::Generator;
+use crate::reference::plan::{plan, Counts, Room};
+use crate::reference::rivals::{keeps_rules, most_before_cuts, pairs_before_cuts, pairs_of};
+use crate::reference::tree::ancestors;
+use crate::reference::{Refusal, Table, ABSENT, JOB_LIMIT, LAYOUT_LIMIT, WORK_CELLS};
+use crate::report::{Outcome, Report, Tally};
+
+/// *Plan*: a table, the partner and layout results, the work cells.
+pub type Planner<'a> =
+    &'a dyn Fn(&Table, &mut [u16], &mut [u16], &mut [u16]) -> Result<Counts, Refusal>;
+
+/// Every group of checks.
+pub fn run(report: &mut Report, planner: Planner) {
+    let mut tally = Tally::default();
+    report.listed("document 01's tables", marked(), |example| {
+        check_example(planner, &example)
+    });
+    report.listed("every small table", small_tables(), |table| {
+        check_at_every_cut(planner, &table, &mut Generator::new(0))
+    });
+    report.made("exhaustive search at every cut", 20_000, |generator| {
+        check_at_every_cut(planner, &table_for_search(generator), generator)
+    });
+    let mut tallied = |table: &Table, room: Room, generator: &mut Generator| -> Outcome {
+        tally.add(&call(planner, table, room, generator)?);
+        Ok(())
+    };
+    report.made("made tables", 10_000, |generator| {
+        let mut table = table(generator);
+        vary_marks(&mut table, generator);
+        tallied(&table, room(&table, generator), generator)
+    });
+    report.made("tables at the limits", 60, |generator| {
+        let table = table_of_size(limit_size(generator), generator);
+        tallied(&table, exact_room(&table), generator)
+    });
+    report.made("refused tables", 20_000, |generator| {
+        let table = wrong_table(generator);
+        tallied(&table, room(&table, generator), generator)
+    });
+    report.made("tables over a limit", 200, |generator| {
+        let table = large_table(generator);
+        tallied(&table, room(&table, generator), generator)
+    });
+    report.tally(&tally, &[0, 3, 4, 5, 6, 8], 50);
+}
+
+/// One call, with everything lent, beside the reference: the partner cells or the refusal, or what
+/// differs.
+fn call(
+    planner: Planner,
+    table: &Table,
+    room: Room,
+    generator: &mut Generator,
+) -> Result<Result<Vec<u16>, Refusal>, String> {
+    let mut partners = Lent::new(room.partners, generator);
+    let mut layouts = Lent::new(room.layouts, generator);
+    let mut work = Lent::new(room.work, generator);
+    let answer = planner(table, partners.cells(), layouts.cells(), work.cells());
+    let expected = plan(table, room);
+    let expected_answer = expected.as_ref().map(|plan| plan.counts);
+    if answer.as_ref() != expected_answer.as_ref().map_err(|refusal| *refusal) {
+        return Err(format!("the answer is {answer:?}, not {expected_answer:?}"));
+    }
+    match expected {
+        Ok(plan) => {
+            holds_over(&partners, "partners", &plan.partners)?;
+            holds_over(&layouts, "layouts", &plan.layouts)?;
+            holds_over(&work, "work", &[0; WORK_CELLS])?;
+            Ok(Ok(partners.cells().to_vec()))
+        }
+        Err(refusal) => {
+            partners.untouched("partners")?;
+            layouts.untouched("layouts")?;
+            work.untouched("work")?;
+            Ok(Err(refusal))
+        }
+    }
+}
+
+/// That the first cells were written and the later ones left.
+fn holds_over(lent: &Lent<u16>, name: &str, written: &[u16]) -> Outcome {
+    let mut expected = lent.entry().to_vec();
+    expected[..written.len()].copy_from_slice(written);
+    lent.holds(name, &expected)
+}
+
+/// The pairs handed back keep the rules, and no rival has more in front of any cut.
+fn check_at_every_cut(planner: Planner, table: &Table, generator: &mut Generator) -> Outcome {
+    let answer = call(planner, table, exact_room(table), generator)?;
+    let partners = answer.map_err(|refusal| format!("refused: {refusal:?}"))?;
+    let pairs = pairs_of(&partners);
+    keeps_rules(table, &pairs)?;
+    let ours = pairs_before_cuts(table, &pairs);
+    let most = most_before_cuts(table);
+    if ours != most {
+        return Err(format!(
+            "pairs in front of the cuts are {ours:?}, not {most:?}"
+        ));
+    }
+    Ok(())
+}
+
+/// A table of document 01, against its words and against the reference.
+pub fn check_example(planner: Planner, example: &Example) -> Outcome {
+    let table = &example.table;
+    let room = exact_room(table);
+    let (mut partners, mut layouts) = (vec![1; room.partners], vec![1; room.layouts]);
+    let answer = planner(table, &mut partners, &mut layouts, &mut [1; WORK_CELLS]);
+    let said = match (&example.said, answer) {
+        (Said::Pairs(pairs), Ok(counts)) => {
+            let singles = table.jobs() - 2 * pairs.len();
+            let passes = (usize::from(counts.pairs), usize::from(counts.singles));
+            passes == (pairs.len(), singles) && (partners, layouts) == cells_of(table, pairs)
+        }
+        (Said::Refused(number, place, _), Err(refusal)) => {
+            (refusal.number, refusal.place) == (*number, *place)
+        }
+        _ => false,
+    };
+    if !said {
+        return Err(format!(
+            "{}: {answer:?} is not what document 01 says",
+            example.name
+        ));
+    }
+    call(planner, table, room, &mut Generator::new(0)).map(|_| ())
+}
+
+/// Partner and layout cells of some pairs.
+fn cells_of(table: &Table, pairs: &[(u16, u16, u16)]) -> (Vec<u16>, Vec<u16>) {
+    let mut partners = vec![ABSENT; table.jobs()];
+    let mut layouts = partners.clone();
+    for &(job, other, layout) in pairs {
+        for (member, partner) in [(job, other), (other, job)] {
+            partners[usize::from(member)] = partner;
+            layouts[usize::from(member)] = layout;
+        }
+    }
+    (partners, layouts)
+}
+
+fn exact_room(table: &Table) -> Room {
+    Room {
+        partners: table.jobs(),
+        layouts: table.jobs(),
+        work: WORK_CELLS,
+    }
+}
+
+/// Mostly the room asked for or more; now and then too little of one.
+fn room(table: &Table, generator: &mut Generator) -> Room {
+    Room {
+        partners: near(table.jobs(), generator),
+        layouts: near(table.jobs(), generator),
+        work: near(WORK_CELLS, generator),
+    }
+}
+
+fn near(length: usize, generator: &mut Generator) -> usize {
+    match generator.below(32) {
+        0 => length.saturating_sub(1),
+        1 => generator.between(0, length),
+        2..=15 => length + generator.between(1, 40),
+        _ => length,
+    }
+}
+
+/// At most eight jobs, so that every rival can be tried.
+fn table_for_search(generator: &mut Generator) -> Table {
+    let size = Size {
+        layouts: generator.between(1, 9),
+        jobs: generator.between(2, 8),
+    };
+    table_of_size(size, generator)
+}
+
+fn limit_size(generator: &mut Generator) -> Size {
+    let few = generator.between(1, LAYOUT_LIMIT);
+    Size {
+        layouts: generator.choice(&[LAYOUT_LIMIT, LAYOUT_LIMIT, few]),
+        jobs: generator.choice(&[JOB_LIMIT, JOB_LIMIT, JOB_LIMIT - 1, 2049, 2048]),
+    }
+}
+
+/// A table with wrong numbers, or with lists of unequal lengths.
+fn wrong_table(generator: &mut Generator) -> Table {
+    let mut table = table_of_size(
+        Size {
+            layouts: generator.between(1, 12),
+            jobs: generator.between(0, 12),
+        },
+        generator,
+    );
+    for _ in 0..generator.between(1, 3) {
+        make_wrong(&mut table, generator);
+    }
+    table
+}
+
+fn make_wrong(table: &mut Table, generator: &mut Generator) {
+    let number = generator.between(0, 14) as u16;
+    let number = generator.choice(&[number, number, number, ABSENT, 0x0100, LAYOUT_LIMIT as u16]);
+    let cells = match generator.below(8) {
+        0 | 1 => &mut table.parents,
+        2 | 3 => &mut table.tops,
+        4 | 5 => &mut table.bottoms,
+        6 => return lose_or_gain(table, generator),
+        _ => return mark_any(table, generator),
+    };
+    if !cells.is_empty() {
+        let at = generator.below(cells.len());
+        cells[at] = number;
+    }
+}
+
+fn lose_or_gain(table: &mut Table, generator: &mut Generator) {
+    match generator.below(6) {
+        0 => drop(table.tops.pop()),
+        1 => drop(table.bottoms.pop()),
+        2 => drop(table.marks.pop()),
+        3 => table.tops.push(0),
+        4 => table.bottoms.push(0),
+        _ => table.parents.clear(),
+    }
+}
+
+fn mark_any(table: &mut Table, generator: &mut Generator) {
+    if !table.marks.is_empty() {
+        let at = generator.below(table.marks.len());
+        table.marks[at] = generator.bits() as u8;
+    }
+}
+
+/// A mark other than 0 counts as solo, whichever it is.
+fn vary_marks(table: &mut Table, generator: &mut Generator) {
+    for mark in table.marks.iter_mut().filter(|mark| **mark != 0) {
+        *mark = generator.choice(&[1, 2, 0x80, 0xFF]);
+    }
+}
+
+/// A table over one limit or both, or just at it, with a wrong number now and then.
+fn large_table(generator: &mut Generator) -> Table {
+    let layouts = LAYOUT_LIMIT - 1 + generator.below(3);
+    let jobs = JOB_LIMIT - 1 + generator.below(3);
+    let (few, some) = (generator.between(1, 9), generator.between(0, 9));
+    let size = generator.choice(&[(layouts, jobs), (layouts, some), (few, jobs)]);
+    let mut table = Table {
+        parents: any_parents(size.0, generator),
+        ..Table::default()
+    };
+    for _ in 0..size.1 {
+        let (top, bottom) = path(&table.parents, Reach::Short, generator);
+        table.add_job(top, bottom, 0);
+    }
+    if generator.one_in(3) {
+        make_wrong(&mut table, generator);
+    }
+    table
+}
+
+/// Every table of at most four layouts and three jobs, solo or not.
+pub fn small_tables() -> Vec<Table> {
+    let mut tables = Vec::new();
+    for layouts in 1..=4 {
+        for parents in parent_lists(layouts) {
+            let table = Table {
+                parents,
+                ..Table::default()
+            };
+            add_jobs(&table, 3, &mut tables);
+        }
+    }
+    tables
+}
+
+fn parent_lists(layouts: u16) -> Vec<Vec<u16>> {
+    let mut lists = vec![vec![ABSENT]];
+    for layout in 1..layouts {
+        lists = lists
+            .iter()
+            .flat_map(|list| (0..layout).map(|parent| [list.as_slice(), &[parent]].concat()))
+            .collect();
+    }
+    lists
+}
+
+/// The table itself, and with up to `jobs` jobs more of every kind.
+fn add_jobs(table: &Table, jobs: usize, tables: &mut Vec<Table>) {
+    tables.push(table.clone());
+    if jobs == 0 {
+        return;
+    }
+    for bottom in 0..table.layouts() as u16 {
+        for top in ancestors(&table.parents, bottom) {
+            for mark in [0, 1] {
+                let mut more = table.clone();
+                more.add_job(top, bottom, mark);
+                add_jobs(&more, jobs - 1, tables);
+            }
+        }
+    }
+}

@@ -1,0 +1,145 @@
+//! *Plan* by the quadratic greedy rule (document 01, "The tree and the running order" and "What
+//! each operation turns away"): in running order each free job takes the first free later job that
+//! shares with it.
+
+use super::paths::{deepest_shared, paths, Path};
+use super::tree::{at_or_below, depth, refuse_wrong_parents};
+use super::visits::{lookup_visits, slot_leaves};
+use super::{refuse, Refusal, Table, ABSENT, JOB_LIMIT, LAYOUT_LIMIT, WORK_CELLS};
+
+/// What *Plan* gives back.
+#[derive(Clone, Copy, Debug, PartialEq, Eq)]
+pub struct Counts {
+    pub pairs: u16,
+    pub singles: u16,
+    pub visits: u32,
+}
+
+/// A plan: partner and shared layout by job number, FFFF for none.
+#[derive(Clone, Debug, PartialEq, Eq)]
+pub struct Plan {
+    pub partners: Vec<u16>,
+    pub layouts: Vec<u16>,
+    pub counts: Counts,
+}
+
+/// The lengths of the results and the work cells lent to *Plan*.
+#[derive(Clone, Copy, Debug)]
+pub struct Room {
+    pub partners: usize,
+    pub layouts: usize,
+    pub work: usize,
+}
+
+/// *Plan*, as to answer and numbers.
+pub fn plan(table: &Table, room: Room) -> Result<Plan, Refusal> {
+    refuse_lengths(table, room)?;
+    if LAYOUT_LIMIT < table.layouts() || JOB_LIMIT < table.jobs() {
+        return refuse(3, 0);
+    }
+    refuse_wrong_parents(&table.parents)?;
+    for job in 0..table.jobs() {
+        refuse_wrong_job(table, job)?;
+    }
+    Ok(plan_of(table))
+}
+
+/// Refusal 8: unequal lengths, short results, few work cells.
+fn refuse_lengths(table: &Table, room: Room) -> Result<(), Refusal> {
+    let jobs = table.tops.len();
+    let equal = table.bottoms.len() == jobs && table.marks.len() == jobs;
+    let long = jobs <= room.partners && jobs <= room.layouts && WORK_CELLS <= room.work;
+    if equal && long {
+        Ok(())
+    } else {
+        refuse(8, 0)
+    }
+}
+
+/// Refusal 5, a top or bottom that is no layout; 6, a bottom not at or below its top.
+fn refuse_wrong_job(table: &Table, job: usize) -> Result<(), Refusal> {
+    let (top, bottom) = (table.tops[job], table.bottoms[job]);
+    let is_layout = |number: u16| usize::from(number) < table.layouts();
+    if !is_layout(top) || !is_layout(bottom) {
+        return refuse(5, job);
+    }
+    if !at_or_below(&table.parents, bottom, top) {
+        return refuse(6, job);
+    }
+    Ok(())
+}
+
+/// The running order: the deeper top first, equal depths by smaller job number.
+pub fn elimination_order(table: &Table) -> Vec<usize> {
+    let depths: Vec<usize> = table
+        .tops
+        .iter()
+        .map(|&top| depth(&table.parents, top))
+        .collect();
+    let mut order: Vec<usize> = (0..table.jobs()).collect();
+    order.sort_by(|&a, &b| depths[b].cmp(&depths[a]).then(a.cmp(&b)));
+    order
+}
+
+/// The plan of a table that is not refused.
+pub fn plan_of(table: &Table) -> Plan {
+    let order = elimination_order(table);
+    let matching = greedy_matching(table, &order, &paths(table));
+    let leaves = slot_leaves(table, &order);
+    let visits = matching
+        .lookups
+        .iter()
+        .map(|&job| lookup_visits(table, &leaves, job))
+        .sum();
+    with_counts(table, matching.partners, visits)
+}
+
+/// Who is paired with whom, and which jobs were still free at their turn.
+struct Matching {
+    partners: Vec<Option<usize>>,
+    lookups: Vec<usize>,
+}
+
+fn greedy_matching(table: &Table, order: &[usize], paths: &[Path]) -> Matching {
+    let mut partners = vec![None; table.jobs()];
+    let mut lookups = Vec::new();
+    for (rank, &job) in order.iter().enumerate() {
+        if table.solo(job) || partners[job].is_some() {
+            continue;
+        }
+        lookups.push(job);
+        let free = |other: usize| !table.solo(other) && partners[other].is_none();
+        let found = order[rank + 1..]
+            .iter()
+            .copied()
+            .find(|&other| free(other) && paths[job].shares_with(&paths[other]));
+        if let Some(other) = found {
+            partners[job] = Some(other);
+            partners[other] = Some(job);
+        }
+    }
+    Matching { partners, lookups }
+}
+
+/// A matching written as *Plan* writes it, each pair with its deepest shared layout, and counted.
+pub fn with_counts(table: &Table, partners: Vec<Option<usize>>, visits: u32) -> Plan {
+    let paths = paths(table);
+    let layout = |(job, partner): (usize, &Option<usize>)| match partner {
+        Some(other) => deepest_shared(table, job, &paths[*other]).unwrap_or(ABSENT),
+        None => ABSENT,
+    };
+    let paired = partners.iter().flatten().count();
+    Plan {
+        layouts: partners.iter().enumerate().map(layout).collect(),
+        partners: partners.iter().map(as_cell).collect(),
+        counts: Counts {
+            pairs: (paired / 2) as u16,
+            singles: (table.jobs() - paired) as u16,
+            visits,
+        },
+    }
+}
+
+fn as_cell(partner: &Option<usize>) -> u16 {
+    partner.map_or(ABSENT, |job| job as u16)
+}

@@ -1,0 +1,51 @@
+//! The whole run from bytes to bytes (document 01, "The plan" and "What each operation turns
+//! away").
+
+use super::plan::{elimination_order, plan_of, Plan};
+use super::table::read;
+use super::{Refusal, Table, ABSENT, OUTPUT_BYTES};
+
+/// The whole run into lent output: the length, and what the output holds afterwards.
+pub fn run_into(input: &[u8], output: &mut [u8]) -> usize {
+    if output.len() < OUTPUT_BYTES {
+        return 0;
+    }
+    let written = run(input);
+    output.fill(0);
+    output[..written.len()].copy_from_slice(&written);
+    written.len()
+}
+
+/// The bytes that the whole run writes.
+pub fn run(input: &[u8]) -> Vec<u8> {
+    match read(input) {
+        Ok(table) => plan_lines(&table, &plan_of(&table)).into_bytes(),
+        Err(refusal) => refusal_line(refusal).into_bytes(),
+    }
+}
+
+/// 1E, the number in two digits, the place in four.
+fn refusal_line(refusal: Refusal) -> String {
+    format!("1E{:02X}{:04X}\n", refusal.number, refusal.place)
+}
+
+/// One line a pass, ordered by the earlier place in it; last the counts.
+fn plan_lines(table: &Table, plan: &Plan) -> String {
+    let order = elimination_order(table);
+    let mut lines = String::new();
+    for (rank, &job) in order.iter().enumerate() {
+        let partner = plan.partners[job];
+        let printed = order[..rank].contains(&usize::from(partner));
+        if partner == ABSENT {
+            lines += &format!("12{job:04X}\n");
+        } else if !printed {
+            lines += &format!("11{job:04X}{partner:04X}{:04X}\n", plan.layouts[job]);
+        }
+    }
+    let counts = plan.counts;
+    lines
+        + &format!(
+            "1F{:04X}{:04X}{:08X}\n",
+            counts.pairs, counts.singles, counts.visits
+        )
+}

@@ -1,0 +1,19 @@
+//! *Shared stretch* by definition (document 01, "What each operation turns away").
+
+/// The shared stretch of two lists, as a part of the list that it begins.
+pub fn shared_stretch<'a>(first: &'a [u16], second: &'a [u16]) -> &'a [u16] {
+    leading(first, second)
+        .or_else(|| leading(second, first))
+        .unwrap_or(&first[..0])
+}
+
+/// If the list's first number stands in the other: the longest leading part that agrees with the
+/// other from where it first stands there.
+fn leading<'a>(list: &'a [u16], other: &[u16]) -> Option<&'a [u16]> {
+    let number = list.first()?;
+    let place = other.iter().position(|standing| standing == number)?;
+    (0..=list.len())
+        .rev()
+        .map(|length| &list[..length])
+        .find(|part| other[place..].starts_with(part))
+}
