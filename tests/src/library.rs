@@ -1,5 +1,6 @@
-//! The proved operations, through the static library of the crate `harness`. None of them asks
-//! anything of its caller, so each wrapper only takes the packed answer apart.
+//! The proved operations: through the static library of the crate `harness`, and the whole run as
+//! the product exports it. None of them asks anything of its caller, so each wrapper only takes the
+//! packed answer apart.
 
 use crate::reference::plan;
 use crate::reference::table::Counts;
@@ -58,6 +59,13 @@ extern "C" {
         singles: *mut u16,
         visits: *mut u32,
     ) -> u32;
+
+    fn murdzeki_plan(
+        input: *const u8,
+        input_length: usize,
+        output: *mut u8,
+        output_length: usize,
+    ) -> usize;
 }
 
 /// *Read a table*.
@@ -159,6 +167,18 @@ pub fn plan(
         )
     };
     unpacked(answer).map(|()| counts)
+}
+
+/// The whole run.
+pub fn run(input: &[u8], output: &mut [u8]) -> usize {
+    unsafe {
+        murdzeki_plan(
+            input.as_ptr(),
+            input.len(),
+            output.as_mut_ptr(),
+            output.len(),
+        )
+    }
 }
 
 /// 0 for done, else number × 65536 + place.

@@ -11,6 +11,7 @@ use Rattle.model.specs.Visits.{cellCount}
 use Rattle.model.specs.Rival.{Foremost}
 use Rattle.model.specs.Planning as Planning
 use Rattle.model.specs.Table.{Reading, readTable, tableRead, buffersVerdict, readAnswer, readCells}
+use Rattle.model.specs.Output.{runLength, runOutput}
 use Rattle.model.specs.Answers.{settledAnswer, tableAnswer, plannedAnswer}
 use Rattle.model.specs.declared.Settled.{Settled}
 use Rattle.model.specs.declared.TableRead.{TableRead}
@@ -50,3 +51,8 @@ pub record PlannedAs (v : Verdict) (tb : Table) (partners layouts work : List �
 abbrev pub PlanOutcome : List ℕ → List ℕ → List ℕ → List ℕ → List ℕ → List ℕ → List ℕ → Planned → List ℕ → List ℕ → List ℕ → Type 0
 PlanOutcome parents tops bottoms marks partners layouts work =
     PlannedAs (Planning.planVerdict (tableOf parents tops bottoms marks) (length partners) (length layouts) (length work)) (tableOf parents tops bottoms marks) partners layouts work
+
+-- *Whole run*: the length answered, and the output as it is left
+pub record RunOutcome (input output : List ℕ) (r : ℕ) (output′ : List ℕ) : Type 0 where
+  pub answered : r ≡ runLength input output
+  pub written : output′ ≡ runOutput input output

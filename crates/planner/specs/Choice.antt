@@ -26,11 +26,12 @@ use Rattle.matching.specs.Compatible.{compatible-true, true-compatible}
 use Rattle.matching.specs.Places.{drop-mem}
 use Rattle.matching.specs.Sorting.{Before}
 use Rattle.matching.specs.RunningOrder.{running-mem, mem-running, running-sorted, running-length, place-lt, place-of-job, job-at-place, behind-place, earlier-place, place-earlier, earlier-depth, slots-mem, slots-length, slot-of-job}
-use Rattle.planner.specs.Accepted.{Accepted}
+use Rattle.orders.specs.Accepted.{Accepted}
 use Rattle.planner.specs.Shelf.{Shelf, slots, entries, smallest}
 use Rattle.planner.specs.ShelfLaws.{SmallestSlot, smallest-slot, smallest-le-slot}
-use Rattle.planner.specs.Asked.{asked-slot, asked-bound}
-use Rattle.planner.specs.Sweep.{shelfCells, jobAt, reachDepth, reachOrder, Shelved, free, onShelf, remaining}
+use Rattle.orders.specs.Asked.{asked-slot, asked-bound}
+use Rattle.orders.specs.Prepared.{shelfCells, jobAt, reachDepth, reachOrder}
+use Rattle.planner.specs.Sweep.{Shelved, free, onShelf, remaining}
 
 true-not-false : {b : Bool} → b ≡ true → b ≡ false → ⊥
 true-not-false {b} p q = let z : _≡_ {A = ℕ} 0 1 = cc in omega arith

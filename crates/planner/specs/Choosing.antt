@@ -18,12 +18,13 @@ use Rattle.model.specs.Visits.{levels, visits, lookupVisits, askedFrom, askedTo
 use Rattle.tree.specs.Leaves.{last-lt, last-is, leaves-nonempty}
 use Rattle.matching.specs.RunningOrder.{slot-lt}
 use Rattle.settle.specs.Spanned.{Spanned}
-use Rattle.planner.specs.RankLaws.{count-same, count-never}
+use Rattle.orders.specs.RankLaws.{count-same, count-never}
 use Rattle.planner.specs.Shelf.{Shelf, Put, LookedUp, slots, entries, smallest}
 use Rattle.planner.specs.VisitBound.{visits-bound}
 use Rattle.planner.specs.Levels.{levels-wide, levels-least}
-use Rattle.planner.specs.Asked.{asked-bound}
-use Rattle.planner.specs.Sweep.{slotCells, shelfCells, jobAt, free, onShelf}
+use Rattle.orders.specs.Asked.{asked-bound}
+use Rattle.orders.specs.Prepared.{slotCells, shelfCells, jobAt}
+use Rattle.planner.specs.Sweep.{free, onShelf}
 use Rattle.planner.specs.Shelving.{job-known, shelved-as, shelved-put, prepared-kept, on-out}
 use Rattle.planner.specs.Choice.{none-chosen, one-chosen, Chosen}
 use Rattle.planner.specs.Steps.{Reaching, Reached, startOf, Choosing, Chose, Partner}

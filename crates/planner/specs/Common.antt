@@ -14,7 +14,7 @@ use Rattle.tree.specs.Chain.{Above, above-le}
 use Rattle.tree.specs.Sharing.{shares-symmetric}
 use Rattle.tree.specs.Deepest as deepest
 use Rattle.settle.specs.Spanned.{Spanned}
-use Rattle.planner.specs.Accepted.{Accepted}
+use Rattle.orders.specs.Accepted.{Accepted}
 
 -- u is above x and another layout
 pub record StrictlyAbove (ps : List ℕ) (u x : ℕ) : Type 0 where

@@ -25,11 +25,12 @@ use Rattle.tree.specs.Numbers.{numbers-length, numbers-at}
 use Rattle.matching.specs.Passes.{greedy-done}
 use Rattle.matching.specs.RunningOrder.{running-length, running-mem, slot-lt}
 use Rattle.settle.specs.Spanned.{Spanned}
-use Rattle.planner.specs.Accepted.{Accepted}
+use Rattle.orders.specs.Accepted.{Accepted}
 use Rattle.planner.specs.Common.{Skipping}
 use Rattle.planner.specs.Shelf.{Shelf, slots, Cleared}
 use Rattle.planner.specs.Levels.{levels-wide, levels-least}
-use Rattle.planner.specs.Sweep.{shelfCells, jobAt, reachOrder, Prepared, Shelved, free, onShelf, remaining, printedIn, Made}
+use Rattle.orders.specs.Prepared.{shelfCells, jobAt, reachOrder, Prepared}
+use Rattle.planner.specs.Sweep.{Shelved, free, onShelf, remaining, printedIn, Made}
 use Rattle.planner.specs.Shelving.{job-known, prepared-kept}
 use Rattle.planner.specs.Reaching.{tail-back, front-kept, mid-tail, mid-length}
 use Rattle.planner.specs.Steps.{Surveyed, Reaching, Sweeping, Filling, Filled}

@@ -15,7 +15,7 @@ use Rattle.matching.specs.Compatible.{compatible-true}
 use Rattle.planner.specs.Common.{Climbable, DeepestCommon, common-shared}
 use Rattle.planner.specs.Shelf.{Put}
 use Rattle.planner.specs.Levels.{levels-wide}
-use Rattle.planner.specs.Sweep.{orderCells, slotCells, shelfCells, jobAt}
+use Rattle.orders.specs.Prepared.{orderCells, slotCells, shelfCells, jobAt}
 use Rattle.planner.specs.Shelving.{job-known, on-joined}
 use Rattle.planner.specs.Choosing.{stored}
 use Rattle.planner.specs.Steps.{Reaching, Joining, Joined}

@@ -1,22 +1,14 @@
 -- What the planner's parts promise one another, and the laws from there to the definitions of document 01.
-pub mod Accepted
 pub mod PlanVerdict
 pub mod Settling
 pub mod Checks
 pub mod Common
-pub mod Ranks
-pub mod RankLaws
 pub mod Shelf
 pub mod ShelfLaws
 pub mod VisitBound
 pub mod VisitCount
 pub mod Levels
-pub mod Asked
 pub mod Sweep
-pub mod Reach
-pub mod Prepare
-pub mod PrepareLaws
-pub mod PreparedOrders
 pub mod Choice
 pub mod Turn
 pub mod Shelving

@@ -20,7 +20,7 @@ use Rattle.model.specs.declared.Refusal.{Refusal}
 use Rattle.model.specs.declared.Totals.{Totals}
 use Rattle.matching.specs.Foremost.{foremost}
 use Rattle.settle.specs.Spanned.{Spanned}
-use Rattle.planner.specs.Accepted.{Accepted, Lent, accepted-job}
+use Rattle.orders.specs.Accepted.{Accepted, Lent, accepted-job}
 use Rattle.planner.specs.Checks.{checkVerdict}
 use Rattle.planner.specs.Steps.{Filling, Filled}
 use Rattle.planner.specs.declared.jobs.JobCheck.{JobCheck}

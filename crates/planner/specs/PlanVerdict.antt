@@ -10,7 +10,7 @@ use Rattle.model.specs.Verdict.{accepted, refused, refuseIf, _then_}
 use Rattle.model.specs.Tree.{layoutLimit, treeVerdict}
 use Rattle.model.specs.Jobs.{Table, jobs, jobLimit}
 use Rattle.model.specs.Planning.{workCells, lentVerdict, jobsVerdict, planVerdict}
-use Rattle.planner.specs.Accepted.{Lent}
+use Rattle.orders.specs.Accepted.{Lent}
 
 module _ (tb : Table) (partners layouts work : ℕ) where
   -- a refusal 8 is that of the call

@@ -18,8 +18,9 @@ use Rattle.model.specs.Order.{slot}
 use Rattle.matching.specs.RunningOrder.{slot-lt}
 use Rattle.planner.specs.Shelf.{Put}
 use Rattle.planner.specs.Levels.{levels-wide}
-use Rattle.planner.specs.Sweep.{orderCells, slotCells, reachCells, shelfCells, jobAt, reachDepth, reachOrder, free, onShelf}
-use Rattle.planner.specs.Reach.{reachAt, reach-known, reached-more, reached-level}
+use Rattle.orders.specs.Prepared.{orderCells, slotCells, reachCells, shelfCells, jobAt, reachDepth, reachOrder}
+use Rattle.planner.specs.Sweep.{free, onShelf}
+use Rattle.orders.specs.Reach.{reachAt, reach-known, reached-more, reached-level}
 use Rattle.planner.specs.Shelving.{job-known, shelved-as, shelved-put, prepared-kept}
 use Rattle.planner.specs.Steps.{Reaching, Reached}
 

@@ -19,7 +19,8 @@ use Rattle.model.specs.Order.{runningOrder, slot}
 use Rattle.matching.specs.RunningOrder.{running-mem, running-length, place-of-job, slot-lt, slot-injective}
 use Rattle.tree.specs.Lists.{getD-mem}
 use Rattle.planner.specs.Shelf.{Shelf, slots, Put}
-use Rattle.planner.specs.Sweep.{orderCells, slotCells, reachCells, shelfCells, jobAt, reachOrder, Prepared, Shelved, free, onShelf}
+use Rattle.orders.specs.Prepared.{orderCells, slotCells, reachCells, shelfCells, jobAt, reachOrder, Prepared}
+use Rattle.planner.specs.Sweep.{Shelved, free, onShelf}
 use Rattle.planner.specs.Turn.{joined, free-joined}
 
 module _ (tb : Table) where

@@ -15,10 +15,11 @@ use Rattle.model.specs.Planning.{workCells}
 use Rattle.model.specs.Tree.{FFFF, depth}
 use Rattle.model.specs.Greedy.{compatible}
 use Rattle.settle.specs.Spanned.{Spanned}
-use Rattle.planner.specs.Accepted.{Accepted}
+use Rattle.orders.specs.Accepted.{Accepted}
 use Rattle.planner.specs.Common.{Skipping}
-use Rattle.planner.specs.Sweep.{shelfCells, jobAt, reachDepth, reachOrder, Prepared, Shelved, free, onShelf, remaining, Made}
-use Rattle.planner.specs.Reach.{reachAt}
+use Rattle.orders.specs.Prepared.{shelfCells, jobAt, reachDepth, reachOrder, Prepared}
+use Rattle.planner.specs.Sweep.{Shelved, free, onShelf, remaining, Made}
+use Rattle.orders.specs.Reach.{reachAt}
 
 -- an accepted table with its work cells prepared, and the shelf of k levels with what stands on it at place i, `reached` bottoms being reached
 pub record Reaching (tb : Table) (ends partners : List ℕ) (k i reached : ℕ) (work : List ℕ) : Type 0 where

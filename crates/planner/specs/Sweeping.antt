@@ -19,8 +19,9 @@ use Rattle.model.specs.Greedy.{compatible}
 use Rattle.model.specs.Visits.{lookupVisits}
 use Rattle.matching.specs.Compatible.{compatible-true}
 use Rattle.planner.specs.Common.{shared-symmetric}
-use Rattle.planner.specs.Sweep.{orderCells, jobAt, reachDepth, free, onShelf, remaining, Made}
-use Rattle.planner.specs.Reach.{reachAt}
+use Rattle.orders.specs.Prepared.{orderCells, jobAt, reachDepth}
+use Rattle.planner.specs.Sweep.{free, onShelf, remaining, Made}
+use Rattle.orders.specs.Reach.{reachAt}
 use Rattle.planner.specs.Choice.{later-depth}
 use Rattle.planner.specs.Shelving.{job-known, job-apart, shelved-as, on-paired, on-solo}
 use Rattle.planner.specs.Turn.{made-paired, made-alone, made-pair}

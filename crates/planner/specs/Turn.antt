@@ -24,7 +24,8 @@ use Rattle.tree.specs.Lists.{Distinct, all-mem, mem-all, pairwise-right, select
 use Rattle.matching.specs.Passes.{vertices, greedy-with, greedy-alone}
 use Rattle.matching.specs.Partners.{passes-known}
 use Rattle.matching.specs.RunningOrder.{running-length, running-distinct}
-use Rattle.planner.specs.Sweep.{jobAt, free, remaining, printedIn, Made}
+use Rattle.orders.specs.Prepared.{jobAt}
+use Rattle.planner.specs.Sweep.{free, remaining, printedIn, Made}
 
 -- ---- passes made so far, and one more
 

@@ -1,10 +1,6 @@
 // The pass planner (document 01, *Plan*): the greedy rule over the running order, by a sweep with lookups.
-mod cells;
 mod common;
-mod fill;
 mod jobs;
-pub mod prepare;
-mod rank;
 mod shelf;
 mod sweep;
 
@@ -24,7 +20,7 @@ ghost use Rattle.model.specs.Answers.{plannedAnswer};
 ghost use Rattle.model.specs.Planning.{jobsVerdict};
 ghost use Rattle.model.specs.Outcomes.{PlannedAs, PlanOutcome};
 ghost use Rattle.settle.specs.Spanned.{Spanned};
-ghost use Rattle.planner.specs.Accepted.{Lent};
+ghost use Rattle.orders.specs.Accepted.{Lent};
 ghost use Rattle.planner.specs.Steps.{Filling, Filled};
 
 // Work cells that a plan needs.
@@ -63,7 +59,7 @@ fn fill_in(
     let mut skips = [0u16; LayoutNumber::LIMIT];
     let mut ends = [0u16; LayoutNumber::LIMIT];
     common::set_skips(parents, depths, &mut skips);
-    prepare::prepare(
+    orders::prepare::prepare(
         parents,
         tops,
         bottoms,
@@ -76,8 +72,8 @@ fn fill_in(
     );
     let levels = levels_of(tops.len());
     shelf::clear(&mut work[sweep::SHELF..], levels);
-    fill::fill(partners, model::ABSENT);
-    fill::fill(layouts, model::ABSENT);
+    orders::fill::fill(partners, model::ABSENT);
+    orders::fill::fill(layouts, model::ABSENT);
     let tally = sweep::sweep(
         parents,
         tops,
@@ -93,7 +89,7 @@ fn fill_in(
         work,
         levels,
     );
-    fill::fill(work, 0);
+    orders::fill::fill(work, 0);
     Totals {
         pairs: tally.pairs,
         singles: tally.singles,

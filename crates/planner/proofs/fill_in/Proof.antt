@@ -10,9 +10,9 @@ use Rattle.planner.proofs.fill_in.Tie as tie
 use Rattle.planner.proofs.fill_in.Reads as reads
 use Rattle.planner.proofs.fill_in.Lts as lts
 use Rattle.planner.proofs.common.set_skips.Reads as set-skips-reads
-use Rattle.planner.proofs.fill.fill.Reads as fill-reads
+use Rattle.orders.proofs.fill.fill.Reads as fill-reads
 use Rattle.planner.proofs.levels_of.Reads as levels-of-reads
-use Rattle.planner.proofs.prepare.prepare.Reads as prepare-reads
+use Rattle.orders.proofs.prepare.prepare.Reads as prepare-reads
 use Rattle.planner.proofs.shelf.clear.Reads as clear-reads
 use Rattle.planner.proofs.sweep.sweep.Reads as sweep-reads
 

@@ -4,7 +4,7 @@ use mathlib.Core.Path.{sym, refl, ap}
 use lib.ListN.{length}
 use Rattle.model.specs.Jobs.{tableOf}
 use Rattle.model.specs.Answers.{settledAnswer}
-use Rattle.planner.specs.Accepted.{Lent}
+use Rattle.orders.specs.Accepted.{Lent}
 use Rattle.planner.specs.PlanVerdict.{unequal-bottoms, unequal-marks, short-partners, short-layouts, short-work, many-layouts, many-jobs, wrong-tree, right-tree}
 use Rattle.planner.specs.Settling.{settled-wrong, settled-right, settled-spanned}
 use Rattle.planner.specs.PlanLaws.{refused-as}

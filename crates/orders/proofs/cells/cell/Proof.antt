@@ -1,0 +1,29 @@
+-- `orders::cells::cell` meets its contract: inside the cells it reads one, past them the list's default stands.
+-- Assumes nothing.
+use native.Mathlib.Omega.{arith}
+use borrow.Author.Needs.{needs}
+use mathlib.Core.Path.{sym}
+use lib.ListN.{List·getD-eq-default}
+use Rattle.orders.proofs.cells.cell.Statement.{statement}
+use Rattle.orders.proofs.cells.cell.Tie as tie
+use Rattle.orders.proofs.cells.cell.Reads as reads
+use Rattle.orders.proofs.cells.cell.Lts as lts
+
+-- src/cells.rt:10:16
+mul-result : tie.Need-mul-result
+mul-result c = search needs
+
+-- src/cells.rt:10:16
+shared-slice-read-result : tie.Need-shared-slice-read-result
+shared-slice-read-result c = search needs
+
+-- src/cells.rt:10:9
+returns : tie.Need-returns
+returns c = search needs
+
+-- src/cells.rt:6:1
+returns-2 : tie.Need-returns-2
+returns-2 c = sym (List·getD-eq-default (c .before .args .cells .now) 0 (c .if1 .left))
+
+pub cell-spec : {M : Type 1} → statement M
+cell-spec = tie.close (tie.spec mul-result shared-slice-read-result returns returns-2)

@@ -1,0 +1,25 @@
+-- `orders::cells::mark` meets its contract: inside the cells it reads one, past them the list's default stands.
+-- Assumes nothing.
+use native.Mathlib.Omega.{arith}
+use borrow.Author.Needs.{needs}
+use mathlib.Core.Path.{sym}
+use lib.ListN.{List·getD-eq-default}
+use Rattle.orders.proofs.cells.mark.Statement.{statement}
+use Rattle.orders.proofs.cells.mark.Tie as tie
+use Rattle.orders.proofs.cells.mark.Reads as reads
+use Rattle.orders.proofs.cells.mark.Lts as lts
+
+-- src/cells.rt:27:16
+shared-slice-read-result : tie.Need-shared-slice-read-result
+shared-slice-read-result c = search needs
+
+-- src/cells.rt:27:9
+returns : tie.Need-returns
+returns c = search needs
+
+-- src/cells.rt:23:1
+returns-2 : tie.Need-returns-2
+returns-2 c = sym (List·getD-eq-default (c .before .args .marks .now) 0 (c .if1 .left))
+
+pub mark-spec : {M : Type 1} → statement M
+mark-spec = tie.close (tie.spec shared-slice-read-result returns returns-2)

@@ -1,0 +1,2 @@
+-- What the program needs to know of the whole run.
+pub mod Within

@@ -1,0 +1,115 @@
+// A plan as lines: a line for each pass, by the running order, and the totals (document 01, "The plan").
+use crate::write;
+use model::JobNumber;
+use model::LayoutNumber;
+ghost use mathlib.Core.Path.{_≡_};
+ghost use Prim.Native.Nat.{ℕ, _+_, _<_, _≤_};
+ghost use lib.ListN.{length, getD};
+ghost use Rattle.model.specs.Jobs.{tableOf, jobs};
+ghost use Rattle.model.specs.Output.{planBytes};
+ghost use Rattle.orders.specs.Prepared.{jobAt};
+ghost use Rattle.run.specs.Writing.{Printed};
+ghost use Rattle.run.specs.Printing.{Placeable, LinePut};
+ghost use Rattle.run.specs.Whole.{Right, PassesReady, PassesPut, PlanReady};
+
+// Where the running order stands in the work cells.
+const ORDER: usize = 4096;
+
+// The line of the job at a place, unless it was printed with an earlier one; `seen` holds the partners of jobs already printed in pairs.
+fn put_pass(
+    order: &[u16],
+    partners: &[u16],
+    layouts: &[u16],
+    seen: &mut [u16],
+    out: &mut [u8],
+    place: usize,
+    at: usize,
+) -> usize
+    requires { ⌜ Placeable (now order) (now partners) (now layouts) (now seen) (now out) place at ⌝ }
+    ensures { λ r. ⌜ LinePut (now (order .entry)) (now (partners .entry)) (now (layouts .entry)) (now (seen .entry)) (now (out .entry)) place at r (now (seen .exit)) (now (out .exit)) ⌝ }
+{
+    let job = order[ORDER + place];
+    let j = job as usize;
+    if seen[j] != model::ABSENT {
+        return at;
+    }
+    let partner = partners[j];
+    if partner == model::ABSENT {
+        return write::put_single(out, at, job);
+    }
+    let k = partner as usize;
+    seen[j] = partner;
+    seen[k] = job;
+    write::put_pair(out, at, job, partner, layouts[j])
+}
+
+// Works out the running order of a right table.
+fn order_jobs(parents: &[u16], tops: &[u16], bottoms: &[u16], marks: &[u8], work: &mut [u16])
+    requires { ⌜ Right (tableOf (now parents) (now tops) (now bottoms) (now marks)) ⌝ }
+    requires { ⌜ length (now work) ≡ 32768 ⌝ }
+    ensures { λ r. ⌜ ((p : ℕ) → p < length (now (tops .entry)) → getD (now (work .exit)) (4096 + p) 0 ≡ jobAt (tableOf (now (parents .entry)) (now (tops .entry)) (now (bottoms .entry)) (now (marks .entry))) p) ⌝ }
+{
+    let mut depths = [0u16; LayoutNumber::LIMIT];
+    let mut firsts = [0u16; LayoutNumber::LIMIT];
+    let mut lasts = [0u16; LayoutNumber::LIMIT];
+    let mut ends = [0u16; LayoutNumber::LIMIT];
+    settle::settle_layouts(parents, &mut depths, &mut firsts, &mut lasts);
+    orders::prepare::prepare(
+        parents,
+        tops,
+        bottoms,
+        marks,
+        &depths,
+        &firsts,
+        &lasts,
+        work,
+        &mut ends,
+    );
+}
+
+// The lines of all passes.
+fn put_passes(
+    parents: &[u16],
+    tops: &[u16],
+    bottoms: &[u16],
+    marks: &[u8],
+    partners: &[u16],
+    layouts: &[u16],
+    out: &mut [u8],
+) -> usize
+    requires { ⌜ PassesReady (tableOf (now parents) (now tops) (now bottoms) (now marks)) (now partners) (now layouts) (now out) ⌝ }
+    ensures { λ r. ⌜ PassesPut (tableOf (now (parents .entry)) (now (tops .entry)) (now (bottoms .entry)) (now (marks .entry))) (now (out .entry)) r (now (out .exit)) ⌝ }
+{
+    let mut order = [0u16; planner::WORK];
+    order_jobs(parents, tops, bottoms, marks, &mut order);
+    let mut seen = [model::ABSENT; JobNumber::LIMIT];
+    let mut at = 0;
+    let mut place = 0;
+    while place < tops.len() {
+        at = put_pass(&order, partners, layouts, &mut seen, out, place, at);
+        place += 1;
+    }
+    at
+}
+
+// The whole plan, with zeros after it.
+pub fn print_plan(
+    parents: &[u16],
+    tops: &[u16],
+    bottoms: &[u16],
+    marks: &[u8],
+    partners: &[u16],
+    layouts: &[u16],
+    pairs: u16,
+    singles: u16,
+    visits: u32,
+    out: &mut [u8],
+) -> usize
+    requires { ⌜ PlanReady (tableOf (now parents) (now tops) (now bottoms) (now marks)) (now partners) (now layouts) pairs singles visits (now out) ⌝ }
+    ensures { λ r. ⌜ Printed (planBytes (tableOf (now (parents .entry)) (now (tops .entry)) (now (bottoms .entry)) (now (marks .entry)))) (now (out .entry)) r (now (out .exit)) ⌝ }
+{
+    let end = put_passes(parents, tops, bottoms, marks, partners, layouts, out);
+    let length = write::put_totals(out, end, pairs, singles, visits);
+    write::clear_from(out, length);
+    length
+}

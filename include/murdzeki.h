@@ -1,0 +1,32 @@
+/* Murdzeki: passes for two-lane label presses. Table and plan lines are described in docs/FORMAT.md. */
+#ifndef MURDZEKI_H
+#define MURDZEKI_H
+
+#include <stddef.h>
+#include <stdint.h>
+
+#ifdef __cplusplus
+extern "C" {
+#endif
+
+/* Bytes of output that murdzeki_plan needs. */
+#define MURDZEKI_OUTPUT 32768
+
+/*
+ * Reads the table in the first `input_length` bytes of `input`, plans its passes and writes the plan's lines to `output`; a table that
+ * cannot be read is answered by one refusal line. Returns the length of what was written, and sets every byte of `output` from there up
+ * to `output_length` to 0.
+ *
+ * Returns 0 if and only if `output_length` is below MURDZEKI_OUTPUT; then nothing is written.
+ *
+ * Any bytes may be handed over. `input` is only read, and nothing outside the two buffers is touched. The two must not overlap, and
+ * neither pointer may be NULL, not even with length 0. The call needs less than 1 MiB of stack and no other memory, always ends, keeps
+ * no state, and can be made from several threads at once.
+ */
+size_t murdzeki_plan(const uint8_t *input, size_t input_length, uint8_t *output, size_t output_length);
+
+#ifdef __cplusplus
+}
+#endif
+
+#endif

@@ -1,0 +1,116 @@
+/* Calls the whole run as a press driver does: a plan, each refusal, too small an output, no input. Expected lines are document 01's. */
+#include <stdio.h>
+#include <stdlib.h>
+#include <string.h>
+
+#include "murdzeki.h"
+
+struct example {
+    const char *name;
+    const char *table;
+    const char *plan;
+};
+
+static const struct example examples[] = {
+    {"bakehouse",
+     "01FFFF\n010000\n010000\n010001\n0200000003\n0200010003\n0200020002\n0200000002\n0200030003\n0300040005\n",
+     "11000400010003\n11000200030002\n120000\n1F0002000100000019\n"},
+    {"no jobs", "01FFFF\n0300010000\n", "1F0000000000000000\n"},
+    {"solo", "01FFFF\n0200000000\n0400000000\n0300010002\n", "120000\n120001\n1F0000000200000001\n"},
+    {"no input", "", "1E070001\n"},
+    {"a line cut off", "01FFFF\n03000100", "1E010002\n"},
+    {"a lower-case digit", "01ffff\n", "1E010001\n"},
+    {"a job before any layout", "0200000000\n", "1E020001\n"},
+    {"a layout after a job", "01FFFF\n0200000000\n010000\n", "1E020003\n"},
+    {"a wrong parent", "01FFFF\n010001\n", "1E040002\n"},
+    {"an unknown bottom", "01FFFF\n0200000001\n", "1E050002\n"},
+    {"a bottom above its top", "01FFFF\n010000\n0200010000\n", "1E060003\n"},
+    {"wrong counts", "01FFFF\n0300020000\n", "1E070002\n"},
+};
+
+static int failed = 0;
+
+static void check(const char *name, int holds)
+{
+    if (!holds) {
+        printf("driver: %s failed\n", name);
+        failed++;
+    }
+}
+
+/* A buffer of exactly so many bytes, none of them 0, so that valgrind sees each byte outside it. */
+static uint8_t *lent(size_t length)
+{
+    uint8_t *bytes = malloc(length > 0 ? length : 1);
+    if (bytes == NULL) {
+        exit(2);
+    }
+    memset(bytes, 0xA5, length);
+    return bytes;
+}
+
+static int all(const uint8_t *bytes, size_t from, size_t to, uint8_t value)
+{
+    for (size_t i = from; i < to; i++) {
+        if (bytes[i] != value) {
+            return 0;
+        }
+    }
+    return 1;
+}
+
+static void plans(const struct example *example, size_t output_length)
+{
+    size_t input_length = strlen(example->table);
+    size_t expected = strlen(example->plan);
+    uint8_t *input = lent(input_length);
+    uint8_t *output = lent(output_length);
+    memcpy(input, example->table, input_length);
+    size_t length = murdzeki_plan(input, input_length, output, output_length);
+    if (output_length < MURDZEKI_OUTPUT) {
+        check(example->name, length == 0 && all(output, 0, output_length, 0xA5));
+    } else {
+        check(example->name,
+              length == expected && memcmp(output, example->plan, expected) == 0 && all(output, expected, output_length, 0));
+    }
+    check(example->name, memcmp(input, example->table, input_length) == 0);
+    free(input);
+    free(output);
+}
+
+/* Layouts, each below the one before it or all below the first, and jobs 0-0. */
+static void grown(const char *name, size_t layouts, int chain, size_t jobs, const char *end, const char *plan)
+{
+    char *table = malloc(7 * layouts + 11 * jobs + strlen(end) + 1);
+    if (table == NULL) {
+        exit(2);
+    }
+    char *at = table + sprintf(table, "01FFFF\n");
+    for (size_t i = 1; i < layouts; i++) {
+        at += sprintf(at, "01%04X\n", chain ? (unsigned)i - 1 : 0);
+    }
+    for (size_t i = 0; i < jobs; i++) {
+        at += sprintf(at, "0200000000\n");
+    }
+    strcpy(at, end);
+    struct example example = {name, table, plan};
+    plans(&example, MURDZEKI_OUTPUT);
+    free(table);
+}
+
+int main(void)
+{
+    static const size_t lengths[] = {0, 1, MURDZEKI_OUTPUT - 1, MURDZEKI_OUTPUT, MURDZEKI_OUTPUT + 77};
+    size_t calls = 3;
+    for (size_t i = 0; i < sizeof examples / sizeof examples[0]; i++) {
+        for (size_t j = 0; j < sizeof lengths / sizeof lengths[0]; j++) {
+            plans(&examples[i], lengths[j]);
+            calls++;
+        }
+    }
+    grown("a layout too many", 1025, 0, 0, "", "1E030401\n");
+    grown("a job too many", 1, 0, 4097, "", "1E031002\n");
+    grown("the longest chain", 1024, 1, 1, "0304000001\n", "120000\n1F0000000100000001\n");
+    printf("driver: %zu calls\n%zu passed, %d failed\n", calls, calls - (size_t)failed, failed);
+    return failed != 0;
+}
