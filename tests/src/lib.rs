@@ -1,7 +1,8 @@
 //! What the test programs share: a second implementation of document 01, tables made from seeds,
-//! document 01's own tables, buffers with guard cells, and the proved operations through their
-//! static library.
+//! document 01's own tables, buffers with guard cells, the proved operations through their static
+//! library, and a whole run by hand to measure theirs against.
 
+pub mod by_hand;
 pub mod examples;
 pub mod lent;
 pub mod library;

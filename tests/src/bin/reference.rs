@@ -1,7 +1,9 @@
 //! The second implementation against document 01's words, so that what the other programs compare
-//! with is itself checked; and the checks of *Plan* against document 01's wrong planners.
+//! with is itself checked; the checks of *Plan* against document 01's wrong planners; and the whole
+//! run by hand beside the second implementation.
 
 use std::process::ExitCode;
+use tests::by_hand;
 use tests::examples::{
     bakehouse, marked, Said, BAKEHOUSE_BYTES, BAKEHOUSE_ORDER, BAKEHOUSE_PLAN, BAKEHOUSE_VISITS,
     READINGS,
@@ -19,6 +21,7 @@ use tests::reference::tree::{leaves_of_each, settled, Settled};
 use tests::reference::visits::{lookup_visits, slot_leaves, visits};
 use tests::reference::{Refusal, Table, WORK_CELLS};
 use tests::report::{Outcome, Report};
+use tests::run_checks;
 use tests::wrong_planners::{wrong_planners, WrongPlanner};
 
 fn main() -> ExitCode {
@@ -52,6 +55,8 @@ fn main() -> ExitCode {
     report.listed("wrong planners", wrong_planners(), |planner| {
         caught(&planner)
     });
+    // The whole run that the benchmark measures against.
+    run_checks::run(&mut report, &by_hand::run_into);
     report.finish()
 }
 
