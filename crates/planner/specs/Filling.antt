@@ -33,7 +33,7 @@ use Rattle.orders.specs.Prepared.{shelfCells, jobAt, reachOrder, Prepared}
 use Rattle.planner.specs.Sweep.{Shelved, free, onShelf, remaining, printedIn, Made}
 use Rattle.planner.specs.Shelving.{job-known, prepared-kept}
 use Rattle.planner.specs.Reaching.{tail-back, front-kept, mid-tail, mid-length}
-use Rattle.planner.specs.Steps.{Surveyed, Reaching, Sweeping, Filling, Filled}
+use Rattle.planner.specs.Steps.{Surveyed, Sweeping, WorkedOut}
 
 -- a shelf for the jobs fits behind the other work cells
 pub shelf-room : (tb : Table) → Accepted tb → (k : ℕ) → k ≡ levels (jobs tb) → 2 ^ suc k ≤ 16384
@@ -126,14 +126,18 @@ module _ (tb : Table) (depths firsts lasts skips ends partners layouts : List �
       ext-getD 0 cells (map f (numbers (jobs tb))) (e ∙ sym (length-map (numbers (jobs tb)) f ∙ numbers-length (jobs tb)))
       (λ j h. at j (omega arith) ∙ sym (numbers-at f (jobs tb) j 0 (omega arith)))
 
-  pub end-filled : (work′ : List ℕ) → length partners ≡ jobs tb → length layouts ≡ jobs tb → work′ ≡ replicate workCells 0 → Filled tb pairs singles visits partners layouts work′
+  pub end-worked-out : length partners ≡ jobs tb → length layouts ≡ jobs tb → WorkedOut tb pairs singles visits partners layouts work
   unfolding Planning.partners Planning.layouts Planning.printed Planning.pairs Planning.singles cellCount printedIn
-  end-filled work′ p-length l-length w =
+  end-worked-out p-length l-length =
       record {
-        pairs-are = s .made .pairs-are ∙ rw all-made refl;
-        singles-are = s .made .singles-are ∙ rw all-made refl;
-        visits-are = s .made .visits-are ∙ rw all-made refl;
-        partners-are = results (partnerIn (passes tb)) partners p-length (λ j h. s .made .partners-hold j h ∙ rw all-made refl);
-        layouts-are = results (printedIn tb (passes tb)) layouts l-length (λ j h. s .made .layouts-hold j h ∙ rw all-made refl);
-        work-is = w;
+        made =
+            record {
+              pairs-are = s .made .pairs-are ∙ rw all-made refl;
+              singles-are = s .made .singles-are ∙ rw all-made refl;
+              visits-are = s .made .visits-are ∙ rw all-made refl;
+              partners-are = results (partnerIn (passes tb)) partners p-length (λ j h. s .made .partners-hold j h ∙ rw all-made refl);
+              layouts-are = results (printedIn tb (passes tb)) layouts l-length (λ j h. s .made .layouts-hold j h ∙ rw all-made refl);
+            };
+        work-length = s .reaching .work-room;
+        order-at = s .reaching .prepared .order-at;
       }

@@ -76,9 +76,9 @@ module _ (ps ts bs ms depths firsts lasts partners layouts work : List ℕ) (len
   pub planned-as : (t : Totals) (partners′ layouts′ work′ : List ℕ) → Filled (tableOf ps ts bs ms) (t .pairs) (t .singles) (t .visits) partners′ layouts′ work′ → PlannedAs (jobsVerdict (tableOf ps ts bs ms)) (tableOf ps ts bs ms) partners layouts work (planned.Done t) (partners′ ++ drop (length ts) partners) (layouts′ ++ drop (length ts) layouts) (work′ ++ drop 32768 work)
   planned-as t partners′ layouts′ work′ f =
       record {
-        answered = rw (accepts, f .pairs-are, f .singles-are, f .visits-are) refl;
-        partners-hold = rw (accepts, f .partners-are) refl;
-        layouts-hold = rw (accepts, f .layouts-are) refl;
+        answered = rw (accepts, f .made .pairs-are, f .made .singles-are, f .made .visits-are) refl;
+        partners-hold = rw (accepts, f .made .partners-are) refl;
+        layouts-hold = rw (accepts, f .made .layouts-are) refl;
         work-holds = rw (accepts, f .work-is) refl;
-        foremost = λ ok. rw (f .partners-are) (foremost tb (s .tree) (right .downward) few (drop (length ts) partners));
+        foremost = λ ok. rw (f .made .partners-are) (foremost tb (s .tree) (right .downward) few (drop (length ts) partners));
       }

@@ -17,7 +17,7 @@ use Rattle.model.specs.Greedy.{compatible}
 use Rattle.settle.specs.Spanned.{Spanned}
 use Rattle.orders.specs.Accepted.{Accepted}
 use Rattle.planner.specs.Common.{Skipping}
-use Rattle.orders.specs.Prepared.{shelfCells, jobAt, reachDepth, reachOrder, Prepared}
+use Rattle.orders.specs.Prepared.{orderCells, jobAt, reachDepth, reachOrder, Prepared}
 use Rattle.planner.specs.Sweep.{Shelved, free, onShelf, remaining, Made}
 use Rattle.orders.specs.Reach.{reachAt}
 
@@ -122,11 +122,21 @@ pub record Filling (ps ts bs : List ℕ) (ms depths firsts lasts partners layout
   pub layouts-length : length layouts ≡ length ts
   pub work-length : length work ≡ workCells
 
--- the plan of the table is in the results, and the work cells are 0
-pub record Filled (tb : Table) (pairs singles visits : ℕ) (partners layouts work : List ℕ) : Type 0 where
+-- the plan of the table is in the results
+pub record PlanMade (tb : Table) (pairs singles visits : ℕ) (partners layouts : List ℕ) : Type 0 where
   pub pairs-are : pairs ≡ Planning.pairs tb
   pub singles-are : singles ≡ Planning.singles tb
   pub visits-are : visits ≡ cellCount tb
   pub partners-are : partners ≡ Planning.partners tb
   pub layouts-are : layouts ≡ Planning.layouts tb
+
+-- and its running order is in the work cells
+pub record WorkedOut (tb : Table) (pairs singles visits : ℕ) (partners layouts work : List ℕ) : Type 0 where
+  pub made : PlanMade tb pairs singles visits partners layouts
+  pub work-length : length work ≡ workCells
+  pub order-at : (p : ℕ) → p < jobs tb → getD work (orderCells + p) 0 ≡ jobAt tb p
+
+-- or the work cells are 0
+pub record Filled (tb : Table) (pairs singles visits : ℕ) (partners layouts work : List ℕ) : Type 0 where
+  pub made : PlanMade tb pairs singles visits partners layouts
   pub work-is : work ≡ replicate workCells 0

@@ -21,7 +21,7 @@ ghost use Rattle.model.specs.Planning.{jobsVerdict};
 ghost use Rattle.model.specs.Outcomes.{PlannedAs, PlanOutcome};
 ghost use Rattle.settle.specs.Spanned.{Spanned};
 ghost use Rattle.orders.specs.Accepted.{Lent};
-ghost use Rattle.planner.specs.Steps.{Filling, Filled};
+ghost use Rattle.planner.specs.Steps.{Filling, WorkedOut, Filled};
 
 // Work cells that a plan needs.
 pub const WORK: usize = 32768;
@@ -40,8 +40,8 @@ fn levels_of(count: usize) -> usize
     level
 }
 
-// Plans an accepted table into results of one cell for each job; the work cells end as 0.
-fn fill_in(
+// Plans an accepted table into results of one cell for each job; the work cells keep its running order.
+pub fn work_out(
     parents: &[u16],
     tops: &[u16],
     bottoms: &[u16],
@@ -54,7 +54,7 @@ fn fill_in(
     work: &mut [u16],
 ) -> Totals
     requires { ⌜ Filling (now parents) (now tops) (now bottoms) (now marks) (now depths) (now firsts) (now lasts) (now partners) (now layouts) (now work) ⌝ }
-    ensures { λ r. ⌜ Filled (tableOf (now (parents .entry)) (now (tops .entry)) (now (bottoms .entry)) (now (marks .entry))) (r .pairs) (r .singles) (r .visits) (now (partners .exit)) (now (layouts .exit)) (now (work .exit)) ⌝ }
+    ensures { λ r. ⌜ WorkedOut (tableOf (now (parents .entry)) (now (tops .entry)) (now (bottoms .entry)) (now (marks .entry))) (r .pairs) (r .singles) (r .visits) (now (partners .exit)) (now (layouts .exit)) (now (work .exit)) ⌝ }
 {
     let mut skips = [0u16; LayoutNumber::LIMIT];
     let mut ends = [0u16; LayoutNumber::LIMIT];
@@ -89,12 +89,43 @@ fn fill_in(
         work,
         levels,
     );
-    orders::fill::fill(work, 0);
     Totals {
         pairs: tally.pairs,
         singles: tally.singles,
         visits: tally.visits,
     }
+}
+
+// The same, and the work cells end as 0.
+fn fill_in(
+    parents: &[u16],
+    tops: &[u16],
+    bottoms: &[u16],
+    marks: &[u8],
+    depths: &[u16],
+    firsts: &[u16],
+    lasts: &[u16],
+    partners: &mut [u16],
+    layouts: &mut [u16],
+    work: &mut [u16],
+) -> Totals
+    requires { ⌜ Filling (now parents) (now tops) (now bottoms) (now marks) (now depths) (now firsts) (now lasts) (now partners) (now layouts) (now work) ⌝ }
+    ensures { λ r. ⌜ Filled (tableOf (now (parents .entry)) (now (tops .entry)) (now (bottoms .entry)) (now (marks .entry))) (r .pairs) (r .singles) (r .visits) (now (partners .exit)) (now (layouts .exit)) (now (work .exit)) ⌝ }
+{
+    let totals = work_out(
+        parents,
+        tops,
+        bottoms,
+        marks,
+        depths,
+        firsts,
+        lasts,
+        partners,
+        layouts,
+        work,
+    );
+    orders::fill::fill(work, 0);
+    totals
 }
 
 // The refusal of a call, with nothing written.
