@@ -6,8 +6,8 @@ use mathlib.Core.Logic.{_≢_}
 use mathlib.Core.List.{List, [], _∷_, _++_, append-assoc, append-nil}
 use native.Mathlib.Numerals.{add-one}
 use native.Mathlib.Omega.{arith}
-use lib.ListN.{length, take, set, replicate, length-set, replicate-append-replicate}
-use lib.Seq.{take-suc-set, take-all, length-take-le}
+use lib.ListN.{length, take, drop, set, replicate, length-set, replicate-append-replicate}
+use lib.Seq.{getD-set-same, drop-cons, drop-set-lt, take-add, take-set-le, take-suc-set, take-all, length-take-le}
 use Rattle.model.specs.Verdict.{padded}
 use Rattle.model.specs.Output.{digit, hex, line, refusalBytes}
 
@@ -52,15 +52,46 @@ unfolding hex
 hex-more zero n h = absurd (h refl)
 hex-more (suc k) n h = let same : suc k - 1 ≡ k = omega arith in rw same refl
 
-pub hex-none : (k at n : ℕ) (out : List ℕ) → k ≡ 0 → Appended k at (hex k n) out at out
-unfolding hex
-hex-none zero at n out e = appended-none at out
-hex-none (suc k) at n out e = absurd (omega arith)
+-- the last digits of the number stand in their cells, from `left` on; those in front of them spell `rest`
+pub record LastDigits (digits at value : ℕ) (before : List ℕ) (rest left : ℕ) (out : List ℕ) : Type 0 where
+  pub few : left ≤ digits
+  pub sized : length out ≡ length before
+  pub front : take at out ≡ take at before
+  pub spelt : hex digits value ≡ hex left rest ++ take (digits - left) (drop (at + left) out)
 
-pub hex-appended : (n : ℕ) {k at r s d : ℕ} {out out₁ out₂ : List ℕ} → k ≢ 0 → Appended (k - 1) at (hex (k - 1) (n / 16)) out r out₁ → d ≡ digit (n % 16) → Appended 1 r (d ∷ []) out₁ s out₂ → Appended k at (hex k n) out s out₂
-hex-appended n {k} {at} {r} {s} {d} h a e b =
-    let both = appended-then a b in
-    record { moved = both .moved ∙ omega arith; sized = both .sized; holds = both .holds ∙ rw (hex-more k n h, e) refl }
+pub no-digits : (digits at value : ℕ) (out : List ℕ) → LastDigits digits at value out value digits out
+no-digits digits at value out =
+    let none : digits - digits ≡ 0 = omega arith in
+    record { few = omega arith; sized = refl; front = refl; spelt = rw none (sym (append-nil (hex digits value))) }
+
+pub one-digit : {digits at value : ℕ} {before : List ℕ} {rest left : ℕ} {out : List ℕ} (d : ℕ) → at + digits ≤ length before → left ≢ 0 → d ≡ digit (rest % 16) → LastDigits digits at value before rest left out → LastDigits digits at value before (rest / 16) (left - 1) (set out (at + (left - 1)) d)
+one-digit {digits} {at} {value} {before} {rest} {left} {out} d room some e g =
+    let few = g .few in
+    let sized = g .sized in
+    let cell : ℕ = at + (left - 1) in
+    let next : suc cell ≡ at + left = omega arith in
+    let longer : suc (digits - left) ≡ digits - (left - 1) = omega arith in
+    let inside : cell < length (set out cell d) = rw (length-set out cell d) (omega arith) in
+    let tail : drop cell (set out cell d) ≡ d ∷ drop (at + left) out = drop-cons (set out cell d) cell 0 inside ∙ rw (getD-set-same out cell d 0 (omega arith), drop-set-lt (suc cell) out cell d (omega arith), next) refl in
+    let more : digit (rest % 16) ∷ take (digits - left) (drop (at + left) out) ≡ take (digits - (left - 1)) (drop cell (set out cell d)) = rw (← longer, tail, e) refl in
+    record {
+      few = omega arith;
+      sized = length-set out cell d ∙ sized;
+      front = take-set-le at out cell d (omega arith) ∙ g .front;
+      spelt =
+          g .spelt
+          ∙ ap (λ (l : List ℕ). l ++ take (digits - left) (drop (at + left) out)) (hex-more left rest some)
+          ∙ append-assoc (hex (left - 1) (rest / 16)) (digit (rest % 16) ∷ []) (take (digits - left) (drop (at + left) out))
+          ∙ ap (λ (l : List ℕ). hex (left - 1) (rest / 16) ++ l) more;
+    }
+
+pub all-digits : {digits at value : ℕ} {before : List ℕ} {rest left : ℕ} {out : List ℕ} → left ≡ 0 → LastDigits digits at value before rest left out → Appended digits at (hex digits value) before (at + digits) out
+unfolding hex
+all-digits {digits} {at} {value} {before} {rest} {left} {out} none g =
+    let spelt : hex digits value ≡ hex 0 rest ++ take (digits - 0) (drop (at + 0) out) = rw none at (g .spelt) in
+    let all : digits - 0 ≡ digits = omega arith in
+    let first : at + 0 ≡ at = omega arith in
+    record { moved = refl; sized = g .sized; holds = take-add at digits out ∙ rw (g .front) (ap (λ (l : List ℕ). take at before ++ l) (sym (spelt ∙ rw (all, first) refl))) }
 
 -- ---- lines
 

@@ -4,15 +4,15 @@ mod write;
 
 use model::JobNumber;
 use model::LayoutNumber;
-use model::Planned;
 use model::TableRead;
 ghost use Prim.Native.Nat.{_≤_};
 ghost use lib.ListN.{length};
 ghost use Rattle.model.specs.Jobs.{tableOf};
 ghost use Rattle.model.specs.Output.{planBytes, refusalBytes};
 ghost use Rattle.model.specs.Outcomes.{RunOutcome};
+ghost use Rattle.settle.specs.Spanned.{Spanned};
+ghost use Rattle.orders.specs.Accepted.{Accepted};
 ghost use Rattle.run.specs.Writing.{Printed};
-ghost use Rattle.run.specs.Whole.{Right};
 
 // Bytes of output that the whole run needs.
 pub const OUTPUT: usize = 32768;
@@ -27,46 +27,51 @@ fn print_refusal(output: &mut [u8], number: u16, place: u16) -> usize
     length
 }
 
-// Plans a table that was read, and prints the plan.
+// Plans a table that was read and settled, and prints the plan by the running order that planning leaves.
 fn plan_table(
     parents: &[u16],
     tops: &[u16],
     bottoms: &[u16],
     marks: &[u8],
+    depths: &[u16],
+    firsts: &[u16],
+    lasts: &[u16],
     output: &mut [u8],
 ) -> usize
-    requires { ⌜ Right (tableOf (now parents) (now tops) (now bottoms) (now marks)) ⌝ }
+    requires { ⌜ Accepted (tableOf (now parents) (now tops) (now bottoms) (now marks)) ⌝ }
+    requires { ⌜ Spanned (now parents) (now depths) (now firsts) (now lasts) ⌝ }
     requires { ⌜ 32768 ≤ length (now output) ⌝ }
     ensures { λ r. ⌜ Printed (planBytes (tableOf (now (parents .entry)) (now (tops .entry)) (now (bottoms .entry)) (now (marks .entry)))) (now (output .entry)) r (now (output .exit)) ⌝ }
 {
+    let count = tops.len();
     let mut partners = [0u16; JobNumber::LIMIT];
     let mut layouts = [0u16; JobNumber::LIMIT];
     let mut work = [0u16; planner::WORK];
-    let planned = planner::plan(
+    let totals = planner::work_out(
         parents,
         tops,
         bottoms,
         marks,
-        &mut partners,
-        &mut layouts,
+        depths,
+        firsts,
+        lasts,
+        &mut partners[..count],
+        &mut layouts[..count],
         &mut work,
     );
-    match planned {
-        // A table that was read is never refused.
-        Planned::Refused(_) => 0,
-        Planned::Done(t) => print::print_plan(
-            parents,
-            tops,
-            bottoms,
-            marks,
-            &partners,
-            &layouts,
-            t.pairs,
-            t.singles,
-            t.visits,
-            output,
-        ),
-    }
+    print::print_plan(
+        parents,
+        tops,
+        bottoms,
+        marks,
+        &work,
+        &partners,
+        &layouts,
+        totals.pairs,
+        totals.singles,
+        totals.visits,
+        output,
+    )
 }
 
 // Reads a table's bytes, plans its passes and prints the plan, or the refusal; the answer is how many bytes were printed. Output below
@@ -78,11 +83,23 @@ pub extern "C" fn murdzeki_plan(input: &[u8], output: &mut [u8]) -> usize
     if output.len() < OUTPUT {
         return 0;
     }
-    let mut parents = [0u16; LayoutNumber::LIMIT];
-    let mut tops = [0u16; JobNumber::LIMIT];
-    let mut bottoms = [0u16; JobNumber::LIMIT];
+    let mut parents = [model::ABSENT; LayoutNumber::LIMIT];
+    let mut tops = [model::ABSENT; JobNumber::LIMIT];
+    let mut bottoms = [model::ABSENT; JobNumber::LIMIT];
     let mut marks = [0u8; JobNumber::LIMIT];
-    let reading = table::read_table(input, &mut parents, &mut tops, &mut bottoms, &mut marks);
+    let mut depths = [0u16; LayoutNumber::LIMIT];
+    let mut firsts = [0u16; LayoutNumber::LIMIT];
+    let mut lasts = [0u16; LayoutNumber::LIMIT];
+    let reading = table::read_lines(
+        input,
+        &mut parents,
+        &mut tops,
+        &mut bottoms,
+        &mut marks,
+        &mut depths,
+        &mut firsts,
+        &mut lasts,
+    );
     match reading {
         TableRead::Refused(r) => print_refusal(output, r.number, r.place),
         TableRead::Read(c) => {
@@ -93,6 +110,9 @@ pub extern "C" fn murdzeki_plan(input: &[u8], output: &mut [u8]) -> usize
                 &tops[..m],
                 &bottoms[..m],
                 &marks[..m],
+                &depths,
+                &firsts,
+                &lasts,
                 output,
             )
         }

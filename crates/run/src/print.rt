@@ -1,16 +1,11 @@
 // A plan as lines: a line for each pass, by the running order, and the totals (document 01, "The plan").
 use crate::write;
 use model::JobNumber;
-use model::LayoutNumber;
-ghost use mathlib.Core.Path.{_≡_};
-ghost use Prim.Native.Nat.{ℕ, _+_, _<_, _≤_};
-ghost use lib.ListN.{length, getD};
-ghost use Rattle.model.specs.Jobs.{tableOf, jobs};
+ghost use Rattle.model.specs.Jobs.{tableOf};
 ghost use Rattle.model.specs.Output.{planBytes};
-ghost use Rattle.orders.specs.Prepared.{jobAt};
 ghost use Rattle.run.specs.Writing.{Printed};
 ghost use Rattle.run.specs.Printing.{Placeable, LinePut};
-ghost use Rattle.run.specs.Whole.{Right, PassesReady, PassesPut, PlanReady};
+ghost use Rattle.run.specs.Whole.{PassesReady, PassesPut, PlanReady};
 
 // Where the running order stands in the work cells.
 const ORDER: usize = 4096;
@@ -43,50 +38,25 @@ fn put_pass(
     write::put_pair(out, at, job, partner, layouts[j])
 }
 
-// Works out the running order of a right table.
-fn order_jobs(parents: &[u16], tops: &[u16], bottoms: &[u16], marks: &[u8], work: &mut [u16])
-    requires { ⌜ Right (tableOf (now parents) (now tops) (now bottoms) (now marks)) ⌝ }
-    requires { ⌜ length (now work) ≡ 32768 ⌝ }
-    ensures { λ r. ⌜ ((p : ℕ) → p < length (now (tops .entry)) → getD (now (work .exit)) (4096 + p) 0 ≡ jobAt (tableOf (now (parents .entry)) (now (tops .entry)) (now (bottoms .entry)) (now (marks .entry))) p) ⌝ }
-{
-    let mut depths = [0u16; LayoutNumber::LIMIT];
-    let mut firsts = [0u16; LayoutNumber::LIMIT];
-    let mut lasts = [0u16; LayoutNumber::LIMIT];
-    let mut ends = [0u16; LayoutNumber::LIMIT];
-    settle::settle_layouts(parents, &mut depths, &mut firsts, &mut lasts);
-    orders::prepare::prepare(
-        parents,
-        tops,
-        bottoms,
-        marks,
-        &depths,
-        &firsts,
-        &lasts,
-        work,
-        &mut ends,
-    );
-}
-
 // The lines of all passes.
 fn put_passes(
     parents: &[u16],
     tops: &[u16],
     bottoms: &[u16],
     marks: &[u8],
+    order: &[u16],
     partners: &[u16],
     layouts: &[u16],
     out: &mut [u8],
 ) -> usize
-    requires { ⌜ PassesReady (tableOf (now parents) (now tops) (now bottoms) (now marks)) (now partners) (now layouts) (now out) ⌝ }
+    requires { ⌜ PassesReady (tableOf (now parents) (now tops) (now bottoms) (now marks)) (now order) (now partners) (now layouts) (now out) ⌝ }
     ensures { λ r. ⌜ PassesPut (tableOf (now (parents .entry)) (now (tops .entry)) (now (bottoms .entry)) (now (marks .entry))) (now (out .entry)) r (now (out .exit)) ⌝ }
 {
-    let mut order = [0u16; planner::WORK];
-    order_jobs(parents, tops, bottoms, marks, &mut order);
     let mut seen = [model::ABSENT; JobNumber::LIMIT];
     let mut at = 0;
     let mut place = 0;
     while place < tops.len() {
-        at = put_pass(&order, partners, layouts, &mut seen, out, place, at);
+        at = put_pass(order, partners, layouts, &mut seen, out, place, at);
         place += 1;
     }
     at
@@ -98,6 +68,7 @@ pub fn print_plan(
     tops: &[u16],
     bottoms: &[u16],
     marks: &[u8],
+    order: &[u16],
     partners: &[u16],
     layouts: &[u16],
     pairs: u16,
@@ -105,10 +76,10 @@ pub fn print_plan(
     visits: u32,
     out: &mut [u8],
 ) -> usize
-    requires { ⌜ PlanReady (tableOf (now parents) (now tops) (now bottoms) (now marks)) (now partners) (now layouts) pairs singles visits (now out) ⌝ }
+    requires { ⌜ PlanReady (tableOf (now parents) (now tops) (now bottoms) (now marks)) (now order) (now partners) (now layouts) pairs singles visits (now out) ⌝ }
     ensures { λ r. ⌜ Printed (planBytes (tableOf (now (parents .entry)) (now (tops .entry)) (now (bottoms .entry)) (now (marks .entry)))) (now (out .entry)) r (now (out .exit)) ⌝ }
 {
-    let end = put_passes(parents, tops, bottoms, marks, partners, layouts, out);
+    let end = put_passes(parents, tops, bottoms, marks, order, partners, layouts, out);
     let length = write::put_totals(out, end, pairs, singles, visits);
     write::clear_from(out, length);
     length

@@ -26,16 +26,19 @@ fn put_byte(out: &mut [u8], at: usize, byte: u8) -> usize
     at + 1
 }
 
-// A number in so many digits, its last ones.
+// A number in so many digits, its last ones, from the last on.
 fn put_hex(out: &mut [u8], at: usize, digits: usize, value: u32) -> usize
     requires { ⌜ at + digits ≤ length (now out) ⌝ }
     ensures { λ r. ⌜ Appended digits at (hex digits value) (now (out .entry)) r (now (out .exit)) ⌝ }
 {
-    if digits == 0 {
-        return at;
+    let mut rest = value;
+    let mut left = digits;
+    while 0 < left {
+        left -= 1;
+        out[at + left] = digit(rest % 16);
+        rest /= 16;
     }
-    let last = put_hex(out, at, digits - 1, value / 16);
-    put_byte(out, last, digit(value % 16))
+    at + digits
 }
 
 // The line of a pair: its jobs, the earlier first, and the layout that it prints on.

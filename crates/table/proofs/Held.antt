@@ -12,7 +12,7 @@ use Rattle.model.specs.Tree.{FFFF}
 use Rattle.model.specs.Table.{Reading}
 use Rattle.model.specs.declared.TableRead.{TableRead}
 use Rattle.model.specs.declared.TableRead.the-variants.{Read, Refused}
-use Rattle.table.specs.Steps.{onwards, layoutsOnly, held, Numbered, Stands, JobRead, JobsReady, JobsUnused, JobsSoFar, JobsOutcome, AllRead, Answered}
+use Rattle.table.specs.Steps.{onwards, layoutsOnly, held, LayoutsSettled, Stands, JobRead, JobsReady, JobsUnused, JobsSoFar, JobsHeld, JobsOutcome, Answered}
 use Rattle.table.proofs.Cells.{unused-more, used-more}
 
 pub jobs-none : (bytes : List ℕ) (at : ℕ) (ps depths firsts lasts tops bottoms marks : List ℕ) → JobsReady bytes at ps depths firsts lasts tops bottoms marks
@@ -27,19 +27,19 @@ jobs-none bytes at ps depths firsts lasts tops bottoms marks h =
 
 module _ (ps tops bottoms marks : List ℕ) (m : ℕ) where
   -- the table in the cells has the layouts and m jobs
-  pub held-stands : (depths firsts lasts : List ℕ) → m ≤ length tops → Numbered ps depths firsts lasts
+  pub held-stands : (depths firsts lasts : List ℕ) → m ≤ length tops → LayoutsSettled ps depths firsts lasts
       → Stands (held ps tops bottoms marks m) (length ps) m depths firsts lasts
-  held-stands depths firsts lasts h n =
-      record { layouts-counted = refl; jobs-counted = length-take-le m tops h; numbered = n }
+  held-stands depths firsts lasts h s =
+      record { layouts-counted = refl; jobs-counted = length-take-le m tops h; settled = s }
 
   -- what stands when the end was read
-  pub jobs-done : (t u : Reading) (r : TableRead) → m ≤ length tops → t ≡ u → Answered u (held ps tops bottoms marks m) r → JobsUnused tops bottoms marks m
-      → JobsOutcome t ps tops bottoms marks r
-  jobs-done t u (Refused r) h e a unused = e ∙ a
-  jobs-done t u (Read c) h e a unused =
+  pub jobs-done : (t u : Reading) (r : TableRead) → 0 < length ps → m ≤ jobLimit → m ≤ length tops → t ≡ u → Answered u (held ps tops bottoms marks m) r
+      → JobsUnused tops bottoms marks m → JobsOutcome t ps tops bottoms marks r
+  jobs-done t u (Refused r) some few h e a unused = e ∙ a
+  jobs-done t u (Read c) some few h e a unused =
       let counted : m ≡ c .jobs = sym (a .jobs-counted ∙ length-take-le m tops h) in
-      subst (λ (k : ℕ). AllRead t (held ps tops bottoms marks k) (c .layouts) (c .jobs) × JobsUnused tops bottoms marks k) counted
-      (record { whole = e ∙ a .whole; layouts-counted = a .layouts-counted; jobs-counted = a .jobs-counted }, unused)
+      subst (JobsHeld t ps tops bottoms marks (c .layouts)) counted
+      (record { whole = e ∙ a .whole; layouts-counted = a .layouts-counted; some-layout = some; few = few; unused = unused })
 
 -- one job more
 pub jobs-more : (bytes ps tops bottoms marks : List ℕ) (at m : ℕ) (t : Reading) (x y mark : ℕ)

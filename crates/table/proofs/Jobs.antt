@@ -11,15 +11,7 @@ use Rattle.model.specs.Verdict.{accepted, refused}
 use Rattle.model.specs.Tree.{above}
 use Rattle.model.specs.Jobs.{Table, jobs, jobLimit, jobVerdict}
 use Rattle.model.specs.Table.{endFrame, frameVerdict, contentVerdict, outOfOrder, extended, isEnd}
-use Rattle.tree.specs.Spans.{ancestor-test}
-use Rattle.table.specs.Steps.{Numbered, spanTest, grounds, jobGrounds, jobOf, JobFrame, EndFrame}
-
--- above, by the numbers in the cells
-pub above-by-spans : (ps depths firsts lasts : List ℕ) (t b : ℕ) → Numbered ps depths firsts lasts → t < length ps → b < length ps
-    → above ps t b ≡ spanTest depths firsts lasts t b
-above-by-spans ps depths firsts lasts t b n h j =
-    ancestor-test ps (n .tree (omega arith)) t b h j
-    ∙ rw (n .first-of t h, n .first-of b j, n .last-of t h, n .depth-of t h, n .depth-of b j)
+use Rattle.table.specs.Steps.{grounds, jobGrounds, jobOf, JobFrame, EndFrame}
 
 -- ---- the grounds 3, 5 and 6
 
@@ -100,6 +92,7 @@ module _ (line : ℕ) (tb : Table) (some-layout : 0 < length (tb .parents)) wher
         extends = refl;
         ends = refl;
         long = refl;
+        some-layout = some-layout;
       }
 
   pub wrong-layouts : (n m : ℕ) → (n ≡ length (tb .parents) → ⊥) → frameVerdict line tb false (endFrame n m) ≡ refused 7 line

@@ -1,17 +1,15 @@
--- The parts put together: layouts numbered by settling, the buffers' sizes, and the outcome of the whole. Assumes nothing.
-use Prim.Native.Nat.{ℕ, zero, suc, _+_, _-_, _≤_, _<_}
+-- The parts put together: the layouts settled, the buffers' sizes, and the outcome of the whole. Assumes nothing.
+use Prim.Native.Nat.{ℕ, _+_, _-_, _≤_}
 use mathlib.Core.Path.{_≡_, refl, sym, ap, subst, _∙_}
 use mathlib.Core.Bool.{Bool, true, false, _||_}
-use mathlib.Core.List.{List, [], _∷_, _++_, map}
-use native.Mathlib.Nat.{add-zero, add-suc, suc-add, zero-add}
+use mathlib.Core.List.{List, [], _∷_, _++_}
 use native.Mathlib.Omega.{arith}
-use lib.ListN.{length, getD, take, drop, replicate, length-take, take-append-drop}
+use lib.ListN.{length, take, replicate, length-take, take-append-drop}
 use lib.Seq.{length-take-le}
 use lib.Dec.{ltb}
 use borrow.Author.Tests.{le-ltb, ltb-false}
-use Rattle.model.specs.Lists.{numbersFrom, numbers}
 use Rattle.model.specs.Verdict.{Verdict, accepted, refused, refuseIf, padded}
-use Rattle.model.specs.Tree.{FFFF, layoutLimit, layoutsFrom, treeVerdict, depth, firstLeaf, lastLeaf, settleVerdict}
+use Rattle.model.specs.Tree.{FFFF, layoutLimit, layoutsFrom, treeVerdict, settleVerdict}
 use Rattle.model.specs.Jobs.{jobs, jobLimit}
 use Rattle.model.specs.Table.{Reading, stopped, readTable, buffersVerdict, tableRead, readAnswer, readingAnswer}
 use Rattle.model.specs.Outcomes.{SettledAs, SettleOutcome, ReadAs}
@@ -21,15 +19,10 @@ use Rattle.model.specs.declared.Counts.{Counts}
 use Rattle.model.specs.declared.TableRead.{TableRead}
 use Rattle.model.specs.declared.TableRead.the-variants.{Read, Refused}
 use Rattle.tree.specs.WellFormed.{well-formed}
-use Rattle.table.specs.Steps.{Unused, Cleared, onwards, layoutsOnly, held, Numbered, LayoutsSoFar, JobsUnused, JobsOutcome, AllRead, BuffersLong, LinesOutcome}
+use Rattle.settle.specs.Spanned.{spanned}
+use Rattle.table.specs.Steps.{Unused, Cleared, onwards, layoutsOnly, Room, LayoutsSettled, LayoutsSoFar, JobsOutcome, BuffersLong, TableHeld, LinesOutcome}
 
--- ---- the layouts, numbered
-
-at-number : (f : ℕ → ℕ) (a n x : ℕ) (rest : List ℕ) → x < n → getD (map f (numbersFrom a n) ++ rest) x 0 ≡ f (a + x)
-unfolding numbersFrom
-at-number f a zero x rest h = absurd (omega arith)
-at-number f a (suc n) zero rest h = rw add-zero
-at-number f a (suc n) (suc x) rest h = at-number f (suc a) n x rest (omega arith) ∙ rw (suc-add, add-suc)
+-- ---- the layouts, settled
 
 settle-accepts : (p : ℕ) (ps : List ℕ) (d f l : ℕ) → length (p ∷ ps) ≤ layoutLimit → layoutsFrom 0 (p ∷ ps) ≡ accepted
     → length (p ∷ ps) ≤ d → length (p ∷ ps) ≤ f → length (p ∷ ps) ≤ l → settleVerdict (p ∷ ps) d f l ≡ accepted
@@ -41,43 +34,44 @@ accepted-tree : (p : ℕ) (ps : List ℕ) → layoutsFrom 0 (p ∷ ps) ≡ accep
 unfolding treeVerdict
 accepted-tree p ps e = e
 
--- settling accepts the layouts, and then each cell holds its layout's numbers
-pub settled-numbered : (ps d f l d′ f′ l′ : List ℕ) (r : Settled) → length ps ≤ layoutLimit → layoutsFrom 0 ps ≡ accepted
-    → length ps ≤ length d → length ps ≤ length f → length ps ≤ length l → SettleOutcome ps d f l r d′ f′ l′ → Numbered ps d′ f′ l′
-unfolding numbers
-settled-numbered [] d f l d′ f′ l′ r few right hd hf hl o =
-    record {
-      tree = λ h. absurd (omega arith);
-      depth-of = λ x h. absurd (omega arith);
-      first-of = λ x h. absurd (omega arith);
-      last-of = λ x h. absurd (omega arith);
-    }
-settled-numbered (p ∷ ps) d f l d′ f′ l′ r few right hd hf hl o =
-    let n = length (p ∷ ps) in
-    let s = subst (λ (v : Verdict). SettledAs v (p ∷ ps) d f l r d′ f′ l′) (settle-accepts p ps (length d) (length f) (length l) few right hd hf hl) o in
-    record {
-      tree = λ h. well-formed (p ∷ ps) (accepted-tree p ps right) few;
-      depth-of = λ x h. rw (s .depths-hold) (at-number (depth (p ∷ ps)) 0 n x (drop n d) h ∙ rw zero-add);
-      first-of = λ x h. rw (s .firsts-hold) (at-number (firstLeaf (p ∷ ps)) 0 n x (drop n f) h ∙ rw zero-add);
-      last-of = λ x h. rw (s .lasts-hold) (at-number (lastLeaf (p ∷ ps)) 0 n x (drop n l) h ∙ rw zero-add);
-    }
+-- settling accepts the layouts, if there are any
+pub layouts-settled : (ps d f l d′ f′ l′ : List ℕ) (r : Settled) → length ps ≤ layoutLimit → layoutsFrom 0 ps ≡ accepted → Room layoutLimit d f l
+    → SettleOutcome ps d f l r d′ f′ l′ → LayoutsSettled ps d′ f′ l′
+layouts-settled [] d f l d′ f′ l′ r few right room o = λ h. absurd (omega arith)
+layouts-settled (p ∷ ps) d f l d′ f′ l′ r few right room o =
+    λ h.
+    spanned (p ∷ ps) d f l r d′ f′ l′ (well-formed (p ∷ ps) (accepted-tree p ps right) few)
+    (subst (λ (v : Verdict). SettledAs v (p ∷ ps) d f l r d′ f′ l′)
+    (settle-accepts p ps (length d) (length f) (length l) few right (omega arith) (omega arith) (omega arith)) o)
 
 -- ---- the lines
 
-pub lines-done : (bytes cells tops bottoms marks : List ℕ) (at n : ℕ) (r : TableRead) → n ≤ length cells → LayoutsSoFar bytes cells at n
-    → JobsOutcome (onwards bytes at (length (take n cells) + 1) (layoutsOnly (take n cells)) false) (take n cells) tops bottoms marks r
-    → LinesOutcome (readTable bytes) cells tops bottoms marks r
-lines-done bytes cells tops bottoms marks at n (Refused r) h so-far o =
-    let counted : length (take n cells) ≡ n = length-take-le n cells h in
-    so-far .next ∙ (rw counted at o)
-lines-done bytes cells tops bottoms marks at n (Read c) h so-far o =
-    let counted : length (take n cells) ≡ n = length-take-le n cells h in
-    let own : n ≡ c .layouts = sym (o .0 .layouts-counted ∙ counted) in
-    let reading = rw counted at (o .0 .whole) in
-    subst
-    (λ (k : ℕ). AllRead (readTable bytes) (held (take k cells) tops bottoms marks (c .jobs)) (c .layouts) (c .jobs) × Unused FFFF k cells × JobsUnused tops bottoms marks (c .jobs))
-    own
-    (record { whole = so-far .next ∙ reading; layouts-counted = o .0 .layouts-counted; jobs-counted = o .0 .jobs-counted }, so-far .unused, o .1)
+module _ (bytes parents tops bottoms marks depths firsts lasts : List ℕ) (long : BuffersLong parents tops bottoms marks) where
+  pub lines-done : (at n : ℕ) (r : TableRead) → LayoutsSoFar bytes parents at n
+      → JobsOutcome (onwards bytes at (length (take n parents) + 1) (layoutsOnly (take n parents)) false) (take n parents) tops bottoms marks r
+      → LayoutsSettled (take n parents) depths firsts lasts
+      → LinesOutcome (readTable bytes) parents tops bottoms marks depths firsts lasts r
+  lines-done at n (Refused r) so-far o settled =
+      let few = so-far .few in
+      let counted : length (take n parents) ≡ n = length-take-le n parents (omega arith) in
+      so-far .next ∙ (rw counted at o)
+  lines-done at n (Read c) so-far o settled =
+      let few = so-far .few in
+      let counted : length (take n parents) ≡ n = length-take-le n parents (omega arith) in
+      let own : n ≡ c .layouts = sym (o .layouts-counted ∙ counted) in
+      let whole = rw counted at (o .whole) in
+      let m = c .jobs in
+      subst (λ (k : ℕ). TableHeld (readTable bytes) parents tops bottoms marks depths firsts lasts k m) own
+      (record {
+        whole = so-far .next ∙ whole;
+        parents-length = counted;
+        tops-length = length-take-le m tops (omega arith);
+        bottoms-length = length-take-le m bottoms (omega arith);
+        marks-length = length-take-le m marks (omega arith);
+        parents-unused = so-far .unused;
+        jobs-unused = o .unused;
+        spanned = settled (o .some-layout);
+      })
 
 -- ---- the buffers' sizes
 
@@ -129,17 +123,17 @@ unfolding readAnswer
 sizes-refused t parents tops bottoms marks = record { answered = refl; parents-hold = refl; tops-hold = refl; bottoms-hold = refl; marks-hold = refl }
 
 module _ (t : Reading) (parents tops bottoms marks parents′ tops′ bottoms′ marks′ : List ℕ) where
-  pub all-read : (c : Counts) → LinesOutcome t parents′ tops′ bottoms′ marks′ (Read c) → Kept parents tops bottoms marks parents′ tops′ bottoms′ marks′
-      → ReadAs accepted t parents tops bottoms marks (Read c) parents′ tops′ bottoms′ marks′
+  pub all-read : (depths firsts lasts : List ℕ) (c : Counts) → LinesOutcome t parents′ tops′ bottoms′ marks′ depths firsts lasts (Read c)
+      → Kept parents tops bottoms marks parents′ tops′ bottoms′ marks′ → ReadAs accepted t parents tops bottoms marks (Read c) parents′ tops′ bottoms′ marks′
   unfolding readAnswer readingAnswer tableRead
-  all-read c o k =
-      let whole = o .0 .whole in
+  all-read depths firsts lasts c o k =
+      let whole = o .whole in
       record {
-        answered = rw (whole, ← o .0 .layouts-counted, ← o .0 .jobs-counted);
-        parents-hold = rw whole (used-padded FFFF (c .layouts) parents′ parents (k .parents-kept) (o .1));
-        tops-hold = rw whole (used-padded FFFF (c .jobs) tops′ tops (k .tops-kept) (o .2 .tops-unused));
-        bottoms-hold = rw whole (used-padded FFFF (c .jobs) bottoms′ bottoms (k .bottoms-kept) (o .2 .bottoms-unused));
-        marks-hold = rw whole (used-padded 0 (c .jobs) marks′ marks (k .marks-kept) (o .2 .marks-unused));
+        answered = rw (whole, o .parents-length, o .tops-length);
+        parents-hold = rw whole (used-padded FFFF (c .layouts) parents′ parents (k .parents-kept) (o .parents-unused));
+        tops-hold = rw whole (used-padded FFFF (c .jobs) tops′ tops (k .tops-kept) (o .jobs-unused .tops-unused));
+        bottoms-hold = rw whole (used-padded FFFF (c .jobs) bottoms′ bottoms (k .bottoms-kept) (o .jobs-unused .bottoms-unused));
+        marks-hold = rw whole (used-padded 0 (c .jobs) marks′ marks (k .marks-kept) (o .jobs-unused .marks-unused));
       }
 
   pub line-refused : (r : Refusal) → t ≡ stopped (r .number) (r .place) → Cleared parents′ tops′ bottoms′ marks′ → Kept parents tops bottoms marks parents′ tops′ bottoms′ marks′

@@ -96,6 +96,7 @@ step-by-frame s at line tb f (step.Job t b mark) e j =
 step-by-frame s at line tb f step.End e j =
     record {
       within = rw (j .long) at (frame-within s at f e);
+      some-layout = j .some-layout;
       next = frame-read s at line tb false f e ∙ rw (j .accepts, j .extends, j .ends, j .long, add-one);
     }
 step-by-frame s at line tb f (step.Refused r) e j = frame-read s at line tb false f e ∙ rw j

@@ -2,19 +2,19 @@
 -- having the number `line`. Assumes nothing.
 use Prim.Native.Nat.{ℕ, zero, suc, _+_, _-_, _≤_, _<_}
 use mathlib.Core.Path.{_≡_}
-use mathlib.Core.Bool.{Bool, true, false, _&&_}
+use mathlib.Core.Bool.{Bool, true, false}
 use mathlib.Core.Option.{Option, some}
 use mathlib.Core.List.{List, [], _∷_, _++_}
-use lib.ListN.{length, getD, take, drop, replicate}
+use lib.ListN.{length, take, drop, replicate}
 use lib.Dec.{leb}
 use Rattle.model.specs.Verdict.{Verdict, accepted, refused, refuseIf, _then_}
-use Rattle.model.specs.Tree.{FFFF, layoutLimit, rightParent, layoutsFrom, depth, firstLeaf, lastLeaf}
-use Rattle.model.specs.Jobs.{Table, jobs, jobLimit, jobVerdict}
+use Rattle.model.specs.Tree.{FFFF, layoutLimit, rightParent, layoutsFrom}
+use Rattle.model.specs.Jobs.{Table, tableOf, jobs, jobLimit, jobVerdict}
 use Rattle.model.specs.Table.{Reading, read, stopped, lines, layoutFrame, jobFrame, soloFrame, frameOf, frameVerdict, withJob, extended, isEnd, readLines, readTable}
 use Rattle.model.specs.declared.TableRead.{TableRead}
 use Rattle.model.specs.Table as Format
 use Rattle.model.specs.declared.TableRead.the-variants as table-read
-use Rattle.tree.specs.WellFormed.{Tree}
+use Rattle.settle.specs.Spanned.{Spanned}
 use Rattle.frame.specs.Answer.{firstLine, width}
 use Rattle.table.specs.declared.LayoutStep.{LayoutStep}
 use Rattle.table.specs.declared.LayoutsRead.{LayoutsRead}
@@ -78,29 +78,21 @@ LayoutsOutcome bytes cells (layouts-read.Refused r) = readTable bytes ≡ stoppe
 
 -- ---- jobs and the end
 
--- depth, first leaf and last leaf of each layout, in their cells
-pub record Numbered (ps depths firsts lasts : List ℕ) : Type 0 where
-  pub tree : 0 < length ps → Tree ps
-  pub depth-of : (x : ℕ) → x < length ps → getD depths x 0 ≡ depth ps x
-  pub first-of : (x : ℕ) → x < length ps → getD firsts x 0 ≡ firstLeaf ps x
-  pub last-of : (x : ℕ) → x < length ps → getD lasts x 0 ≡ lastLeaf ps x
-
 -- there is a cell for each of n layouts
 pub record Room (n : ℕ) (depths firsts lasts : List ℕ) : Type 0 where
   pub depths-room : n ≤ length depths
   pub firsts-room : n ≤ length firsts
   pub lasts-room : n ≤ length lasts
 
--- the table so far has n layouts, numbered, and m jobs
+-- the layouts ps, if there are any, are settled in the cells
+abbrev pub LayoutsSettled : List ℕ → List ℕ → List ℕ → List ℕ → Type 0
+LayoutsSettled ps depths firsts lasts = 0 < length ps → Spanned ps depths firsts lasts
+
+-- the table so far has n layouts, settled, and m jobs
 pub record Stands (tb : Table) (n m : ℕ) (depths firsts lasts : List ℕ) : Type 0 where
   pub layouts-counted : length (tb .parents) ≡ n
   pub jobs-counted : jobs tb ≡ m
-  pub numbered : Numbered (tb .parents) depths firsts lasts
-
--- the first leaf of b lies in the span of t, which is no deeper
-abbrev pub spanTest : List ℕ → List ℕ → List ℕ → ℕ → ℕ → Bool
-spanTest depths firsts lasts t b =
-    leb (getD firsts t 0) (getD firsts b 0) && leb (getD firsts b 0) (getD lasts t 0) && leb (getD depths t 0) (getD depths b 0)
+  pub settled : LayoutsSettled (tb .parents) depths firsts lasts
 
 -- refusal `number` at `line`, and none for 0
 abbrev pub grounds : ℕ → ℕ → Verdict
@@ -130,6 +122,7 @@ pub record EndFrame (line : ℕ) (tb : Table) (f : Format.Frame) : Type 0 where
   pub extends : extended tb f ≡ tb
   pub ends : isEnd f ≡ true
   pub long : width f ≡ 11
+  pub some-layout : 0 < length (tb .parents)
 
 abbrev pub FrameOutcome : ℕ → Table → Format.Frame → Step → Type 0
 FrameOutcome line tb f (step.Job t b mark) = JobFrame line tb f (t .0) (b .0) mark
@@ -145,6 +138,7 @@ pub record JobRead (bytes : List ℕ) (at line : ℕ) (tb : Table) (t b mark : �
 -- it is the end, and nothing may follow
 pub record EndRead (bytes : List ℕ) (at line : ℕ) (tb : Table) : Type 0 where
   pub within : at + 11 ≤ length bytes
+  pub some-layout : 0 < length (tb .parents)
   pub next : onwards bytes at line tb false ≡ onwards bytes (at + 11) (line + 1) tb true
 
 abbrev pub StepOutcome : List ℕ → ℕ → ℕ → Table → Step → Type 0
@@ -175,11 +169,10 @@ pub record JobsUnused (tops bottoms marks : List ℕ) (m : ℕ) : Type 0 where
   pub bottoms-unused : Unused FFFF m bottoms
   pub marks-unused : Unused 0 m marks
 
--- layouts are read and numbered, and the cells of jobs are as long as asked for and not used
+-- layouts are read and settled, and the cells of jobs are as long as asked for and not used
 pub record JobsReady (bytes : List ℕ) (at : ℕ) (ps depths firsts lasts tops bottoms marks : List ℕ) : Type 0 where
   pub few : length ps ≤ layoutLimit
-  pub room : Room (length ps) depths firsts lasts
-  pub numbered : Numbered ps depths firsts lasts
+  pub settled : LayoutsSettled ps depths firsts lasts
   pub no-layout : NoLayout bytes at 0
   pub unused : JobsUnused tops bottoms marks 0
   pub tops-long : jobLimit ≤ length tops
@@ -193,9 +186,16 @@ pub record JobsSoFar (t : Reading) (bytes ps tops bottoms marks : List ℕ) (at 
   pub in-order : NoLayout bytes at m
   pub next : t ≡ onwards bytes at (length ps + m + 1) (held ps tops bottoms marks m) false
 
+-- the reading t is the n layouts ps, at least one, with m jobs in the first cells, and no other cell of jobs is used
+pub record JobsHeld (t : Reading) (ps tops bottoms marks : List ℕ) (n m : ℕ) : Type 0 where
+  pub whole : t ≡ read (held ps tops bottoms marks m)
+  pub layouts-counted : n ≡ length ps
+  pub some-layout : 0 < length ps
+  pub few : m ≤ jobLimit
+  pub unused : JobsUnused tops bottoms marks m
+
 abbrev pub JobsOutcome : Reading → List ℕ → List ℕ → List ℕ → List ℕ → TableRead → Type 0
-JobsOutcome t ps tops bottoms marks (table-read.Read c) =
-    AllRead t (held ps tops bottoms marks (c .jobs)) (c .layouts) (c .jobs) × JobsUnused tops bottoms marks (c .jobs)
+JobsOutcome t ps tops bottoms marks (table-read.Read c) = JobsHeld t ps tops bottoms marks (c .layouts) (c .jobs)
 JobsOutcome t ps tops bottoms marks (table-read.Refused r) = t ≡ stopped (r .number) (r .place)
 
 -- the layouts ps are accepted, and the cells of jobs are as long as asked for and not used
@@ -220,10 +220,19 @@ pub record BuffersReady (parents tops bottoms marks : List ℕ) : Type 0 where
   pub long : BuffersLong parents tops bottoms marks
   pub clear : Cleared parents tops bottoms marks
 
--- the buffers hold the table that was read; what a refusal leaves in them is open
-abbrev pub LinesOutcome : Reading → List ℕ → List ℕ → List ℕ → List ℕ → TableRead → Type 0
-LinesOutcome t parents tops bottoms marks (table-read.Read c) =
-    AllRead t (held (take (c .layouts) parents) tops bottoms marks (c .jobs)) (c .layouts) (c .jobs)
-    × Unused FFFF (c .layouts) parents
-    × JobsUnused tops bottoms marks (c .jobs)
-LinesOutcome t parents tops bottoms marks (table-read.Refused r) = t ≡ stopped (r .number) (r .place)
+-- the reading t is the table of n layouts and m jobs in the first cells, no other cell is used, and the layouts are settled
+pub record TableHeld (t : Reading) (parents tops bottoms marks depths firsts lasts : List ℕ) (n m : ℕ) : Type 0 where
+  pub whole : t ≡ read (tableOf (take n parents) (take m tops) (take m bottoms) (take m marks))
+  pub parents-length : length (take n parents) ≡ n
+  pub tops-length : length (take m tops) ≡ m
+  pub bottoms-length : length (take m bottoms) ≡ m
+  pub marks-length : length (take m marks) ≡ m
+  pub parents-unused : Unused FFFF n parents
+  pub jobs-unused : JobsUnused tops bottoms marks m
+  pub spanned : Spanned (take n parents) depths firsts lasts
+
+-- what a refusal leaves in the cells is open
+abbrev pub LinesOutcome : Reading → List ℕ → List ℕ → List ℕ → List ℕ → List ℕ → List ℕ → List ℕ → TableRead → Type 0
+LinesOutcome t parents tops bottoms marks depths firsts lasts (table-read.Read c) =
+    TableHeld t parents tops bottoms marks depths firsts lasts (c .layouts) (c .jobs)
+LinesOutcome t parents tops bottoms marks depths firsts lasts (table-read.Refused r) = t ≡ stopped (r .number) (r .place)

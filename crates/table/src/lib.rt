@@ -10,7 +10,8 @@ ghost use Rattle.model.specs.Table.{layoutFrame, endFrame, readTable, buffersVe
 ghost use Rattle.model.specs.Verdict.{accepted, refuseIf};
 ghost use Rattle.model.specs.Outcomes.{ReadAs, ReadOutcome};
 ghost use Rattle.model.specs.Answers.{frameCase};
-ghost use Rattle.table.specs.Steps.{Unused, Cleared, LayoutOutcome, LayoutsOutcome, Numbered, Room, Stands, spanTest, grounds, jobGrounds, jobOf, FrameOutcome, NoLayout, StepOutcome, onwards, layoutsOnly, Answered, JobsReady, JobsOutcome, LayoutsReady, BuffersLong, BuffersReady, LinesOutcome};
+ghost use Rattle.settle.specs.Spanned.{Spanned};
+ghost use Rattle.table.specs.Steps.{Unused, Cleared, LayoutOutcome, LayoutsOutcome, Room, LayoutsSettled, Stands, grounds, jobGrounds, jobOf, FrameOutcome, NoLayout, StepOutcome, onwards, layoutsOnly, Answered, JobsReady, JobsOutcome, LayoutsReady, BuffersLong, BuffersReady, LinesOutcome};
 use model::Counts;
 use model::Frame;
 use model::FrameRead;
@@ -131,30 +132,6 @@ fn read_layouts(bytes: &[u8], parents: &mut [u16]) -> LayoutsRead
     }
 }
 
-// Whether the bottom is at or below the top, in constant time: its first leaf lies in the span of the top, which is no deeper
-// (`ancestor-test` of the crate tree).
-fn at_or_below(
-    top: LayoutNumber,
-    bottom: LayoutNumber,
-    depths: &[u16],
-    firsts: &[u16],
-    lasts: &[u16],
-) -> bool
-    requires { ⌜ (Room (top .0 + 1) (now depths) (now firsts) (now lasts)) × (Room (bottom .0 + 1) (now depths) (now firsts) (now lasts)) ⌝ }
-    ensures { λ r. ⌜ r ≡ spanTest (now (depths .entry)) (now (firsts .entry)) (now (lasts .entry)) (top .0) (bottom .0) ⌝ }
-{
-    let t = top.0 as usize;
-    let b = bottom.0 as usize;
-    let leaf = firsts[b];
-    if leaf < firsts[t] {
-        return false;
-    }
-    if lasts[t] < leaf {
-        return false;
-    }
-    depths[t] <= depths[b]
-}
-
 // The number of a job's refusal after `jobs` others: 3, 5 or 6, or 0 for none.
 fn job_grounds(
     top: LayoutNumber,
@@ -165,8 +142,7 @@ fn job_grounds(
     firsts: &[u16],
     lasts: &[u16],
 ) -> u16
-    requires { ⌜ Room layouts (now depths) (now firsts) (now lasts) ⌝ }
-    ensures { λ r. ⌜ ((ps : List ℕ) (line : ℕ) → length ps ≡ layouts → Numbered ps (now (depths .entry)) (now (firsts .entry)) (now (lasts .entry)) → grounds r line ≡ jobGrounds ps jobs (top .0) (bottom .0) line) ⌝ }
+    ensures { λ r. ⌜ ((ps : List ℕ) (line : ℕ) → length ps ≡ layouts → Spanned ps (now (depths .entry)) (now (firsts .entry)) (now (lasts .entry)) → grounds r line ≡ jobGrounds ps jobs (top .0) (bottom .0) line) ⌝ }
 {
     if JobNumber::LIMIT <= jobs {
         return 3;
@@ -177,7 +153,7 @@ fn job_grounds(
     if layouts <= bottom.0 as usize {
         return 5;
     }
-    if at_or_below(top, bottom, depths, firsts, lasts) {
+    if settle::at_or_below(top, bottom, depths, firsts, lasts) {
         return 0;
     }
     6
@@ -195,7 +171,7 @@ fn judge_job(
     firsts: &[u16],
     lasts: &[u16],
 ) -> Step
-    requires { ⌜ (mark ≤ 1) × (0 < layouts) × Room layouts (now depths) (now firsts) (now lasts) ⌝ }
+    requires { ⌜ (mark ≤ 1) × (0 < layouts) ⌝ }
     ensures { λ r. ⌜ ((tb : Table) → Stands tb layouts jobs (now (depths .entry)) (now (firsts .entry)) (now (lasts .entry)) → FrameOutcome line tb (jobOf (top .0) (bottom .0) mark) r) ⌝ }
 {
     let number = job_grounds(top, bottom, layouts, jobs, depths, firsts, lasts);
@@ -238,7 +214,6 @@ fn judge(
     firsts: &[u16],
     lasts: &[u16],
 ) -> Step
-    requires { ⌜ Room layouts (now depths) (now firsts) (now lasts) ⌝ }
     ensures { λ r. ⌜ ((tb : Table) → Stands tb layouts jobs (now (depths .entry)) (now (firsts .entry)) (now (lasts .entry)) → ((p : ℕ) → frameCase «line_frame» ≡ layoutFrame p → 0 < jobs) → FrameOutcome line tb (frameCase «line_frame») r) ⌝ }
 {
     if layouts == 0 {
@@ -268,7 +243,7 @@ fn next_step(
     firsts: &[u16],
     lasts: &[u16],
 ) -> Step
-    requires { ⌜ (layouts ≤ layoutLimit) × (jobs ≤ jobLimit) × Room layouts (now depths) (now firsts) (now lasts) ⌝ }
+    requires { ⌜ (layouts ≤ layoutLimit) × (jobs ≤ jobLimit) ⌝ }
     ensures { λ r. ⌜ ((tb : Table) → Stands tb layouts jobs (now (depths .entry)) (now (firsts .entry)) (now (lasts .entry)) → NoLayout (now (bytes .entry)) at jobs → StepOutcome (now (bytes .entry)) at (layouts + jobs + 1) tb r) ⌝ }
 {
     let line = (layouts + jobs + 1) as u16;
@@ -315,7 +290,7 @@ fn finish(bytes: &[u8], at: usize, layouts: usize, jobs: usize) -> TableRead
     }
 }
 
-// Reads jobs and the end into cells that hold FFFF and 0, after the layouts whose parents and numbers are lent.
+// Reads jobs and the end into cells that hold FFFF and 0, after the layouts, which are settled.
 fn read_jobs(
     bytes: &[u8],
     start: usize,
@@ -349,7 +324,7 @@ fn read_jobs(
     }
 }
 
-// Numbers the layouts once, so that refusal 6 takes constant time for a job, and reads the jobs.
+// Settles the layouts once, so that refusal 6 takes constant time for a job, and reads the jobs.
 fn read_after_layouts(
     bytes: &[u8],
     start: usize,
@@ -357,38 +332,45 @@ fn read_after_layouts(
     tops: &mut [u16],
     bottoms: &mut [u16],
     marks: &mut [u8],
+    depths: &mut [u16],
+    firsts: &mut [u16],
+    lasts: &mut [u16],
 ) -> TableRead
     requires { ⌜ LayoutsReady (now bytes) start (now parents) (now tops) (now bottoms) (now marks) ⌝ }
+    requires { ⌜ Room layoutLimit (now depths) (now firsts) (now lasts) ⌝ }
     ensures { λ r. ⌜ JobsOutcome (onwards (now (bytes .entry)) start (length (now (parents .entry)) + 1) (layoutsOnly (now (parents .entry))) false) (now (parents .entry)) (now (tops .exit)) (now (bottoms .exit)) (now (marks .exit)) r ⌝ }
+    ensures { λ r. ⌜ LayoutsSettled (now (parents .entry)) (now (depths .exit)) (now (firsts .exit)) (now (lasts .exit)) ⌝ }
 {
-    let mut depths = [0u16; LayoutNumber::LIMIT];
-    let mut firsts = [0u16; LayoutNumber::LIMIT];
-    let mut lasts = [0u16; LayoutNumber::LIMIT];
     // Each parent was tested as it was read: this is refused only where there is no layout, and then no job is either.
-    settle::settle_layouts(parents, &mut depths, &mut firsts, &mut lasts);
+    settle::settle_layouts(parents, depths, firsts, lasts);
     read_jobs(
         bytes,
         start,
         parents,
-        &depths,
-        &firsts,
-        &lasts,
+        depths,
+        firsts,
+        lasts,
         tops,
         bottoms,
         marks,
     )
 }
 
-// Reads the lines into clear buffers.
-fn read_lines(
+// Reads the lines into clear buffers, and hands the settled layouts on with the table, so that a caller who plans it need not settle
+// them again.
+pub fn read_lines(
     bytes: &[u8],
     parents: &mut [u16],
     tops: &mut [u16],
     bottoms: &mut [u16],
     marks: &mut [u8],
+    depths: &mut [u16],
+    firsts: &mut [u16],
+    lasts: &mut [u16],
 ) -> TableRead
     requires { ⌜ BuffersReady (now parents) (now tops) (now bottoms) (now marks) ⌝ }
-    ensures { λ r. ⌜ LinesOutcome (readTable (now (bytes .entry))) (now (parents .exit)) (now (tops .exit)) (now (bottoms .exit)) (now (marks .exit)) r ⌝ }
+    requires { ⌜ Room layoutLimit (now depths) (now firsts) (now lasts) ⌝ }
+    ensures { λ r. ⌜ LinesOutcome (readTable (now (bytes .entry))) (now (parents .exit)) (now (tops .exit)) (now (bottoms .exit)) (now (marks .exit)) (now (depths .exit)) (now (firsts .exit)) (now (lasts .exit)) r ⌝ }
 {
     let layouts_read = read_layouts(bytes, parents);
     match layouts_read {
@@ -399,6 +381,9 @@ fn read_lines(
             tops,
             bottoms,
             marks,
+            depths,
+            firsts,
+            lasts,
         ),
         LayoutsRead::Refused(r) => TableRead::Refused(r),
     }
@@ -431,8 +416,20 @@ fn read_into(
     requires { ⌜ BuffersLong (now parents) (now tops) (now bottoms) (now marks) ⌝ }
     ensures { λ r. ⌜ ReadAs accepted (readTable (now (bytes .entry))) (now (parents .entry)) (now (tops .entry)) (now (bottoms .entry)) (now (marks .entry)) r (now (parents .exit)) (now (tops .exit)) (now (bottoms .exit)) (now (marks .exit)) ⌝ }
 {
+    let mut depths = [0u16; LayoutNumber::LIMIT];
+    let mut firsts = [0u16; LayoutNumber::LIMIT];
+    let mut lasts = [0u16; LayoutNumber::LIMIT];
     clear(parents, tops, bottoms, marks);
-    let answer = read_lines(bytes, parents, tops, bottoms, marks);
+    let answer = read_lines(
+        bytes,
+        parents,
+        tops,
+        bottoms,
+        marks,
+        &mut depths,
+        &mut firsts,
+        &mut lasts,
+    );
     match answer {
         TableRead::Read(c) => TableRead::Read(c),
         TableRead::Refused(r) => {

@@ -1,28 +1,39 @@
--- `run::murdzeki_plan` meets its contract: nothing, the refusal of the reading, or the plan of the table that was read, which is right.
+-- `run::murdzeki_plan` meets its contract: nothing, the refusal of the reading, or the plan of the table that was read, which *Plan* accepts.
 -- Assumes nothing.
 use borrow.Author.Needs.{needs}
 use mathlib.Core.Path.{sym}
-use Rattle.run.specs.Whole.{ReadWhole, read-whole, part-room, read-stopped, too-short, plan-run, refusal-run}
+use Rattle.model.specs.Table.{readTable}
+use Rattle.table.specs.Steps.{TableHeld}
+use Rattle.run.specs.Whole.{made-ready, read-right, read-whole, part-room, read-stopped, too-short, plan-run, refusal-run}
 use Rattle.run.proofs.murdzeki_plan.Statement.{statement}
 use Rattle.run.proofs.murdzeki_plan.Tie as tie
 
 returns : tie.Need-returns
 returns c = too-short _ _ (c .if1 .taken)
 
-slice-aggregate-read-table : tie.Need-slice-aggregate-read-table
-slice-aggregate-read-table c = search needs
+slice-aggregate-read-lines : tie.Need-slice-aggregate-read-lines
+slice-aggregate-read-lines c = search needs
 
-slice-aggregate-read-table-2 : tie.Need-slice-aggregate-read-table-2
-slice-aggregate-read-table-2 c = search needs
+slice-aggregate-read-lines-2 : tie.Need-slice-aggregate-read-lines-2
+slice-aggregate-read-lines-2 c = search needs
 
-slice-aggregate-read-table-3 : tie.Need-slice-aggregate-read-table-3
-slice-aggregate-read-table-3 c = search needs
+slice-aggregate-read-lines-3 : tie.Need-slice-aggregate-read-lines-3
+slice-aggregate-read-lines-3 c = search needs
 
-slice-aggregate-read-table-4 : tie.Need-slice-aggregate-read-table-4
-slice-aggregate-read-table-4 c = search needs
+slice-aggregate-read-lines-4 : tie.Need-slice-aggregate-read-lines-4
+slice-aggregate-read-lines-4 c = search needs
 
-read-table-requires : tie.Need-read-table-requires
-read-table-requires c κs = search needs
+slice-aggregate-read-lines-5 : tie.Need-slice-aggregate-read-lines-5
+slice-aggregate-read-lines-5 c = search needs
+
+slice-aggregate-read-lines-6 : tie.Need-slice-aggregate-read-lines-6
+slice-aggregate-read-lines-6 c = search needs
+
+slice-aggregate-read-lines-7 : tie.Need-slice-aggregate-read-lines-7
+slice-aggregate-read-lines-7 c = search needs
+
+read-lines-requires : tie.Need-read-lines-requires
+read-lines-requires c κs = (made-ready, record { depths-room = search needs; firsts-room = search needs; lasts-room = search needs })
 
 enum-known-reading : tie.Need-enum-known-reading
 enum-known-reading c = search needs
@@ -40,8 +51,8 @@ cast-m : tie.Need-cast-m
 cast-m c = search needs
 
 -- the table is in the buffers
-whole : (c : tie.After-known-told2) → ReadWhole (c .before .before .before .before .before .before .before .before .before .before .before .before .before .before .before .args .input .now) (c .before .before .before .before .before .before .before .read-table .last .1 .0) (c .before .before .before .before .before .before .before .read-table .last .1 .1 .0) (c .before .before .before .before .before .before .before .read-table .last .1 .1 .1 .0) (c .before .before .before .before .before .before .before .read-table .last .1 .1 .1 .1 .0) (c .before .reading2 .given .0 .0 .layouts) (c .before .reading2 .given .0 .0 .jobs)
-whole c = read-whole _ _ _ _ _ _ _ _ _ _ (search needs) (search needs) (search needs) (search needs) (c .before .before .before .before .before .before .before .read-table .ensures) _ (c .before .reading2 .given .1)
+whole : (c : tie.After-known-told2) → TableHeld (readTable (c .before .before .before .before .before .before .before .before .before .before .before .before .before .before .before .before .before .before .before .before .before .args .input .now)) (c .before .before .before .before .before .before .before .before .before .before .read-lines .last .1 .0) (c .before .before .before .before .before .before .before .before .before .before .read-lines .last .1 .1 .0) (c .before .before .before .before .before .before .before .before .before .before .read-lines .last .1 .1 .1 .0) (c .before .before .before .before .before .before .before .before .before .before .read-lines .last .1 .1 .1 .1 .0) (c .before .before .before .before .before .before .before .before .before .before .read-lines .last .1 .1 .1 .1 .1 .0) (c .before .before .before .before .before .before .before .before .before .before .read-lines .last .1 .1 .1 .1 .1 .1 .0) (c .before .before .before .before .before .before .before .before .before .before .read-lines .last .1 .1 .1 .1 .1 .1 .1 .0) (c .before .reading2 .given .0 .0 .layouts) (c .before .reading2 .given .0 .0 .jobs)
+whole c = read-whole _ _ _ _ _ _ _ _ _ (c .before .before .before .before .before .before .before .before .before .before .read-lines .ensures) _ (c .before .reading2 .given .1)
 
 array-share-prefix-parents : tie.Need-array-share-prefix-parents
 array-share-prefix-parents c = part-room _ _ (whole (c .before .before) .parents-length)
@@ -67,31 +78,45 @@ array-share-prefix-marks c = part-room _ _ (whole (c .before .before .before .be
 slice-aggregate-plan-table-4 : tie.Need-slice-aggregate-plan-table-4
 slice-aggregate-plan-table-4 c = sym (whole (c .before .before .before .before .before .before) .marks-length)
 
+slice-aggregate-plan-table-5 : tie.Need-slice-aggregate-plan-table-5
+slice-aggregate-plan-table-5 c = search needs
+
+slice-aggregate-plan-table-6 : tie.Need-slice-aggregate-plan-table-6
+slice-aggregate-plan-table-6 c = search needs
+
+slice-aggregate-plan-table-7 : tie.Need-slice-aggregate-plan-table-7
+slice-aggregate-plan-table-7 c = search needs
+
 plan-table-requires : tie.Need-plan-table-requires
-plan-table-requires c κs = (whole (c .before .before .before .before .before .before .before) .right, c .before .before .before .before .before .before .before .before .before .before .before .before .before .before .before .before .before .before .before .if1 .left)
+plan-table-requires c κs = 
+    let held = whole (c .before .before .before .before .before .before .before .before .before .before) in
+    (read-right _ _ (held .whole), (held .spanned, c .before .before .before .before .before .before .before .before .before .before .before .before .before .before .before .before .before .before .before .before .before .before .before .before .before .before .before .before .if1 .left))
 
 same-length : tie.Need-same-length
 same-length c = search needs
 
 returns-2 : tie.Need-returns-2
-returns-2 c = refusal-run _ _ _ _ _ _ (c .before .before .before .before .before .before .before .before .before .before .before .before .before .before .before .before .if1 .left) (read-stopped _ _ _ _ _ _ _ _ _ _ (search needs) (search needs) (search needs) (search needs) (c .before .before .before .before .before .before .before .before .before .before .before .read-table .ensures) _ (c .before .before .before .before .before .reading .given .1)) (c .before .before .print-refusal .ensures)
+returns-2 c = refusal-run _ _ _ _ _ _ (c .before .before .before .before .before .before .before .before .before .before .before .before .before .before .before .before .before .before .before .before .before .before .if1 .left) (read-stopped _ _ _ _ _ _ _ _ _ (c .before .before .before .before .before .before .before .before .before .before .before .before .before .before .read-lines .ensures) _ (c .before .before .before .before .before .reading .given .1)) (c .before .before .print-refusal .ensures)
 
 same-length-2 : tie.Need-same-length-2
 same-length-2 c = search needs
 
 returns-3 : tie.Need-returns-3
-returns-3 c = plan-run _ _ _ _ _ (c .before .before .before .before .before .before .before .before .before .before .before .before .before .before .before .before .before .before .before .before .before .before .if1 .left) (whole (c .before .before .before .before .before .before .before .before .before .before) .reading) (c .before .before .plan-table .ensures)
+returns-3 c = plan-run _ _ _ _ _ (c .before .before .before .before .before .before .before .before .before .before .before .before .before .before .before .before .before .before .before .before .before .before .before .before .before .before .before .before .before .before .before .if1 .left) (whole (c .before .before .before .before .before .before .before .before .before .before .before .before .before) .whole) (c .before .before .plan-table .ensures)
 
 pub murdzeki-plan-spec : {M : Type 1} → statement M
 murdzeki-plan-spec =
     tie.close
     (tie.spec
     returns
-    slice-aggregate-read-table
-    slice-aggregate-read-table-2
-    slice-aggregate-read-table-3
-    slice-aggregate-read-table-4
-    read-table-requires
+    slice-aggregate-read-lines
+    slice-aggregate-read-lines-2
+    slice-aggregate-read-lines-3
+    slice-aggregate-read-lines-4
+    slice-aggregate-read-lines-5
+    slice-aggregate-read-lines-6
+    slice-aggregate-read-lines-7
+    read-lines-requires
     enum-known-reading
     print-refusal-requires
     enum-known-reading-2
@@ -105,6 +130,9 @@ murdzeki-plan-spec =
     slice-aggregate-plan-table-3
     array-share-prefix-marks
     slice-aggregate-plan-table-4
+    slice-aggregate-plan-table-5
+    slice-aggregate-plan-table-6
+    slice-aggregate-plan-table-7
     plan-table-requires
     same-length
     returns-2

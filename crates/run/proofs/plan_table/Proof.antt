@@ -1,60 +1,68 @@
--- `run::plan_table` meets its contract: *Plan* accepts a right table, and its results are printed.
+-- `run::plan_table` meets its contract: the plan is worked out into the first cells of the results, and printed from there.
 -- Assumes nothing.
-use native.Mathlib.Omega.{arith}
 use borrow.Author.Needs.{needs}
-use Rattle.run.specs.Whole.{plan-ready, not-refused}
+use mathlib.Core.Path.{sym}
+use lib.ListN.{length}
+use Rattle.run.specs.Whole.{lent-length, back-length, plan-ready}
 use Rattle.run.proofs.plan_table.Statement.{statement}
 use Rattle.run.proofs.plan_table.Tie as tie
 
-slice-aggregate-plan : tie.Need-slice-aggregate-plan
-slice-aggregate-plan c = search needs
+array-borrow-prefix-partners : tie.Need-array-borrow-prefix-partners
+array-borrow-prefix-partners c = search needs
 
-slice-aggregate-plan-2 : tie.Need-slice-aggregate-plan-2
-slice-aggregate-plan-2 c = search needs
+slice-aggregate-work-out : tie.Need-slice-aggregate-work-out
+slice-aggregate-work-out c = sym (lent-length _ (c .before .before .before .before .before .before .before .before .before .pre .0 .few))
 
-slice-aggregate-plan-3 : tie.Need-slice-aggregate-plan-3
-slice-aggregate-plan-3 c = search needs
+array-borrow-prefix-layouts : tie.Need-array-borrow-prefix-layouts
+array-borrow-prefix-layouts c = search needs
 
-plan-requires : tie.Need-plan-requires
-plan-requires c κs = search needs
+slice-aggregate-work-out-2 : tie.Need-slice-aggregate-work-out-2
+slice-aggregate-work-out-2 c = sym (lent-length _ (c .before .before .before .before .before .before .before .before .before .before .pre .0 .few))
 
-enum-told : tie.Need-enum-told
-enum-told c = search needs
+slice-aggregate-work-out-3 : tie.Need-slice-aggregate-work-out-3
+slice-aggregate-work-out-3 c = search needs
 
-enum-known-planned : tie.Need-enum-known-planned
-enum-known-planned c = search needs
+work-out-requires : tie.Need-work-out-requires
+work-out-requires c κs = 
+    let s = c .before .before .before .before .before .before .before .before .before .before .before in
+    let room = lent-length _ (s .pre .0 .few) in
+    record { table = s .pre .0; settled = s .pre .1 .0; partners-length = room; layouts-length = room; work-length = search needs }
 
 slice-aggregate-print-plan : tie.Need-slice-aggregate-print-plan
 slice-aggregate-print-plan c = search needs
 
 slice-aggregate-print-plan-2 : tie.Need-slice-aggregate-print-plan-2
-slice-aggregate-print-plan-2 c = search needs
+slice-aggregate-print-plan-2 c = 
+    let cells = c .before .before .before .before .before .work-out in
+    sym (back-length (length (c .before .before .before .before .before .before .before .before .before .before .before .before .before .before .before .before .before .args .tops .now)) (cells .last .1 .1 .1 .1 .1 .1 .1 .0) (cells .kept .1 .1 .1 .1 .1 .1 .1 .0))
+
+slice-aggregate-print-plan-3 : tie.Need-slice-aggregate-print-plan-3
+slice-aggregate-print-plan-3 c = 
+    let cells = c .before .before .before .before .before .before .work-out in
+    sym (back-length (length (c .before .before .before .before .before .before .before .before .before .before .before .before .before .before .before .before .before .before .args .tops .now)) (cells .last .1 .1 .1 .1 .1 .1 .1 .1 .0) (cells .kept .1 .1 .1 .1 .1 .1 .1 .1 .0))
 
 print-plan-requires : tie.Need-print-plan-requires
-print-plan-requires c κs = plan-ready _ _ _ _ _ _ _ _ (c .before .before .before .before .before .before .before .before .before .before .before .before .before .before .before .before .before .before .pre .0) (omega (arith, c .before .before .before .before .before .before .before .before .before .before .before .before .before .before .before .before .before .before .pre .0 .table .few)) (omega (arith, c .before .before .before .before .before .before .before .before .before .before .before .before .before .before .before .before .before .before .pre .0 .table .few)) (omega arith) (c .before .before .before .before .before .before .before .before .before .plan .ensures) _ _ (c .before .before .before .before .planned .given .1) (c .before .before .before .before .before .before .before .before .before .before .before .before .before .before .before .before .before .before .pre .1)
-
-returns : tie.Need-returns
-returns c = absurd (not-refused _ _ _ _ _ _ _ _ (c .before .before .before .before .before .before .before .before .before .before .before .before .before .before .pre .0) (omega (arith, c .before .before .before .before .before .before .before .before .before .before .before .before .before .before .pre .0 .table .few)) (omega (arith, c .before .before .before .before .before .before .before .before .before .before .before .before .before .before .pre .0 .table .few)) (omega arith) (c .before .before .before .before .before .plan .ensures) _ (c .enum-told .given .1))
+print-plan-requires c κs = plan-ready _ _ _ _ _ _ _ _ _ _ (c .before .before .before .before .before .before .before .before .before .before .before .before .before .before .before .before .before .before .before .pre .0) (c .before .before .before .before .before .before .before .work-out .ensures) (c .before .before .before .before .before .before .before .before .before .before .before .before .before .before .before .before .before .before .before .pre .1 .1)
 
 same-length : tie.Need-same-length
 same-length c = search needs
 
-returns-2 : tie.Need-returns-2
-returns-2 c = c .before .before .print-plan .ensures
+returns : tie.Need-returns
+returns c = search needs
 
 pub plan-table-spec : {M : Type 1} → statement M
 plan-table-spec =
     tie.close
     (tie.spec
-    slice-aggregate-plan
-    slice-aggregate-plan-2
-    slice-aggregate-plan-3
-    plan-requires
-    enum-told
-    enum-known-planned
+    array-borrow-prefix-partners
+    slice-aggregate-work-out
+    array-borrow-prefix-layouts
+    slice-aggregate-work-out-2
+    slice-aggregate-work-out-3
+    work-out-requires
     slice-aggregate-print-plan
     slice-aggregate-print-plan-2
+    slice-aggregate-print-plan-3
     print-plan-requires
-    returns
     same-length
-    returns-2)
+    returns)

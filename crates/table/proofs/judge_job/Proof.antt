@@ -16,7 +16,7 @@ returns : tie.Need-returns
 returns c =
     λ tb s.
     let a = c .before .before .before .before .before .args in
-    let e = c .before .job-grounds .ensures (tb .parents) (a .line) (s .layouts-counted) (s .numbered) in
+    let e = c .before .job-grounds .ensures (tb .parents) (a .line) (s .layouts-counted) (s .settled (omega arith)) in
     job-accepted (a .line) tb (omega arith) (a .top .0) (a .bottom .0) (a .mark) (c .before .before .before .before .before .pre .0)
     (rw (s .jobs-counted) (ap (λ (k : ℕ). grounds k (a .line)) (sym (c .if1 .taken)) ∙ e))
 
@@ -24,7 +24,7 @@ returns-2 : tie.Need-returns-2
 returns-2 c =
     λ tb s.
     let a = c .before .before .before .before .before .args in
-    let e = c .before .job-grounds .ensures (tb .parents) (a .line) (s .layouts-counted) (s .numbered) in
+    let e = c .before .job-grounds .ensures (tb .parents) (a .line) (s .layouts-counted) (s .settled (omega arith)) in
     job-refused (a .line) tb (omega arith) (a .top .0) (a .bottom .0) (a .mark) _ (c .if1 .left) (rw (s .jobs-counted) e)
 
 pub judge-job-spec : {M : Type 1} → statement M

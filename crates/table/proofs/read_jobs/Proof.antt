@@ -33,7 +33,7 @@ step-at c =
     let few = l .inv .3 .few in
     let long : l .jobs ≤ length (l .tops) = omega (arith, l .inv .0, c .before .before .before .before .before .before .before .before .before .before .pre) in
     c .next-step .ensures (held (a .parents .now) (l .tops) (l .bottoms) (l .marks) (l .jobs))
-    (held-stands (a .parents .now) (l .tops) (l .bottoms) (l .marks) (l .jobs) (a .depths .now) (a .firsts .now) (a .lasts .now) long (c .before .before .before .before .before .before .before .before .before .before .pre .numbered))
+    (held-stands (a .parents .now) (l .tops) (l .bottoms) (l .marks) (l .jobs) (a .depths .now) (a .firsts .now) (a .lasts .now) long (c .before .before .before .before .before .before .before .before .before .before .pre .settled))
     (l .inv .3 .in-order)
 
 -- it is a job
@@ -84,10 +84,10 @@ loop-holds c =
 next-step-requires : tie.Need-next-step-requires Inv-loop μ-loop
 next-step-requires c κs =
     let pre = c .before .before .before .before .before .before .before .before .before .pre in
-    (pre .few, c .loop .inv .3 .few, pre .room)
+    (pre .few, c .loop .inv .3 .few)
 
 enum-known-step : tie.Need-enum-known-step Inv-loop μ-loop
-enum-known-step c = search needs
+enum-known-step c = (search needs)
 
 mul-tops : tie.Need-mul-tops Inv-loop μ-loop
 mul-tops c = let few = c .before .before .before .before .loop .inv .3 .few in omega arith
@@ -125,7 +125,7 @@ loop-again c =
     )
 
 enum-told : tie.Need-enum-told Inv-loop μ-loop
-enum-told c = search needs
+enum-told c = (search needs)
 
 add-finish : tie.Need-add-finish Inv-loop μ-loop
 add-finish c = let last = end c in omega (arith, c .before .before .before .before .before .before .before .before .before .before .before .before .good)
@@ -151,12 +151,12 @@ returns c =
     let tb = held (a .parents .now) (l .tops) (l .bottoms) (l .marks) (l .jobs) in
     let line : length (a .parents .now) + l .jobs + 1 + 1 ≡ length (a .parents .now) + l .jobs + 2 = omega arith in
     jobs-done (a .parents .now) (l .tops) (l .bottoms) (l .marks) (l .jobs) _
-    (onwards (a .bytes .now) (l .at + 11) (length (a .parents .now) + l .jobs + 2) tb true) (c .finish .result) long
+    (onwards (a .bytes .now) (l .at + 11) (length (a .parents .now) + l .jobs + 2) tb true) (c .finish .result) (end (c .before) .some-layout) few long
     (rw (← line) (l .inv .3 .next ∙ end (c .before) .next))
     (c .finish .ensures tb refl (length-take-le (l .jobs) (l .tops) long)) (l .inv .3 .unused)
 
 enum-known-step-2 : tie.Need-enum-known-step-2 Inv-loop μ-loop
-enum-known-step-2 c = search needs
+enum-known-step-2 c = (search needs)
 
 same-length-4 : tie.Need-same-length-4 Inv-loop μ-loop
 same-length-4 c = c .before .before .before .before .loop .inv .0

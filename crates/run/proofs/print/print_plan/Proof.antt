@@ -18,7 +18,7 @@ same-length : tie.Need-same-length
 same-length c = search needs
 
 returns : tie.Need-returns
-returns c = plan-printed _ _ _ _ _ _ _ _ _ _ _ _ (c .before .before .before .before .before .before .before .before .before .before .before .before .before .before .before .before .before .before .before .pre) (c .before .before .before .before .before .before .before .before .before .before .put-passes .ensures) (c .before .before .before .before .before .before .put-totals .ensures) (c .before .before .clear-from .ensures)
+returns c = plan-printed _ _ _ _ _ _ _ _ _ _ _ _ _ (c .before .before .before .before .before .before .before .before .before .before .before .before .before .before .before .before .before .before .before .before .pre) (c .before .before .before .before .before .before .before .before .before .before .put-passes .ensures) (c .before .before .before .before .before .before .put-totals .ensures) (c .before .before .clear-from .ensures)
 
 pub print-plan-spec : {M : Type 1} → statement M
 print-plan-spec =

@@ -7,38 +7,30 @@ use native.Mathlib.Numerals.{add-one}
 use lib.ListN.{length}
 use Rattle.model.specs.Jobs.{tableOf}
 use Rattle.run.specs.Printing.{Printing, placeable, next, printing-none}
-use Rattle.run.specs.Whole.{plan-at, passes-put}
+use Rattle.run.specs.Whole.{passes-put}
 use native.Mathlib.Omega.{arith}
 use Rattle.run.proofs.print.put_passes.Statement.{statement}
 use Rattle.run.proofs.print.put_passes.Tie as tie
 
 abbrev Inv-loop : tie.InvT-loop
-Inv-loop parents tops bottoms marks partners layouts out₀ order seen₀ at₀ place₀ out seen at place =
+Inv-loop parents tops bottoms marks order partners layouts out₀ seen₀ at₀ place₀ out seen at place =
     Printing (tableOf parents tops bottoms marks) place seen at out × (length out ≡ length out₀) × (length seen ≡ 4096) × (place ≤ length tops)
 
 abbrev μ-loop : tie.MeasureT-loop
-μ-loop parents tops bottoms marks partners layouts out₀ order seen₀ at₀ place₀ out seen at place =
+μ-loop parents tops bottoms marks order partners layouts out₀ seen₀ at₀ place₀ out seen at place =
     length tops - place
 
-slice-aggregate-order-jobs : tie.Need-slice-aggregate-order-jobs Inv-loop μ-loop
-slice-aggregate-order-jobs c = search needs
-
-order-jobs-requires : tie.Need-order-jobs-requires Inv-loop μ-loop
-order-jobs-requires c κs = (c .before .before .before .before .before .before .before .before .pre .right, search needs)
-
 loop-holds : tie.Need-loop-holds Inv-loop μ-loop
-loop-holds c = (printing-none _ _ (c .before .before .before .before .before .before .before .before .before .before .pre .right .table .few) (c .before .before .before .before .before .before .before .before .before .before .pre .room), refl, search needs, search needs)
+loop-holds c = (printing-none _ _ (c .before .before .before .before .before .before .before .before .pre .plan .few) (c .before .before .before .before .before .before .before .before .pre .room), refl, search needs, search needs)
 
 slice-aggregate-put-pass : tie.Need-slice-aggregate-put-pass Inv-loop μ-loop
 slice-aggregate-put-pass c = search needs
 
-slice-aggregate-put-pass-2 : tie.Need-slice-aggregate-put-pass-2 Inv-loop μ-loop
-slice-aggregate-put-pass-2 c = search needs
-
 put-pass-requires : tie.Need-put-pass-requires Inv-loop μ-loop
-put-pass-requires c κs =
-    let inv = c .before .before .before .before .loop .inv in
-    placeable (tableOf (c .before .before .before .before .before .before .before .before .before .before .before .before .before .before .before .args .parents .now) (c .before .before .before .before .before .before .before .before .before .before .before .before .before .before .before .args .tops .now) (c .before .before .before .before .before .before .before .before .before .before .before .before .before .before .before .args .bottoms .now) (c .before .before .before .before .before .before .before .before .before .before .before .before .before .before .before .args .marks .now)) _ _ _ _ _ _ _ (plan-at (tableOf (c .before .before .before .before .before .before .before .before .before .before .before .before .before .before .before .args .parents .now) (c .before .before .before .before .before .before .before .before .before .before .before .before .before .before .before .args .tops .now) (c .before .before .before .before .before .before .before .before .before .before .before .before .before .before .before .args .bottoms .now) (c .before .before .before .before .before .before .before .before .before .before .before .before .before .before .before .args .marks .now)) _ _ _ _ (c .before .before .before .before .before .before .before .before .before .before .before .before .before .before .before .pre) (c .before .before .before .before .before .before .order-jobs .ensures)) (c .before .before .before .loop-test .taken) (inv .0) (search needs) (inv .2) (c .before .before .before .before .before .before .before .before .before .before .before .before .before .before .before .pre .partners-room) (c .before .before .before .before .before .before .before .before .before .before .before .before .before .before .before .pre .layouts-room)
+put-pass-requires c κs = 
+    let pre = c .before .before .before .before .before .before .before .before .before .before .before .before .pre in
+    let inv = c .before .before .before .loop .inv in
+    placeable (tableOf (c .before .before .before .before .before .before .before .before .before .before .before .before .args .parents .now) (c .before .before .before .before .before .before .before .before .before .before .before .before .args .tops .now) (c .before .before .before .before .before .before .before .before .before .before .before .before .args .bottoms .now) (c .before .before .before .before .before .before .before .before .before .before .before .before .args .marks .now)) _ _ _ _ _ _ _ (pre .plan) (c .before .before .loop-test .taken) (inv .0) (pre .order-length) (inv .2) (pre .partners-room) (pre .layouts-room)
 
 add-place : tie.Need-add-place Inv-loop μ-loop
 add-place c = search needs
@@ -47,32 +39,19 @@ loop-less : tie.Need-loop-less Inv-loop μ-loop
 loop-less c = search needs
 
 loop-again : tie.Need-loop-again Inv-loop μ-loop
-loop-again c =
-    let inv = c .before .before .before .before .before .before .before .before .loop .inv in
-    (rw add-one (next (tableOf (c .before .before .before .before .before .before .before .before .before .before .before .before .before .before .before .before .before .before .before .args .parents .now) (c .before .before .before .before .before .before .before .before .before .before .before .before .before .before .before .before .before .before .before .args .tops .now) (c .before .before .before .before .before .before .before .before .before .before .before .before .before .before .before .before .before .before .before .args .bottoms .now) (c .before .before .before .before .before .before .before .before .before .before .before .before .before .before .before .before .before .before .before .args .marks .now)) _ _ _ _ _ _ _ (plan-at (tableOf (c .before .before .before .before .before .before .before .before .before .before .before .before .before .before .before .before .before .before .before .args .parents .now) (c .before .before .before .before .before .before .before .before .before .before .before .before .before .before .before .before .before .before .before .args .tops .now) (c .before .before .before .before .before .before .before .before .before .before .before .before .before .before .before .before .before .before .before .args .bottoms .now) (c .before .before .before .before .before .before .before .before .before .before .before .before .before .before .before .before .before .before .before .args .marks .now)) _ _ _ _ (c .before .before .before .before .before .before .before .before .before .before .before .before .before .before .before .before .before .before .before .pre) (c .before .before .before .before .before .before .before .before .before .before .order-jobs .ensures)) (c .before .before .before .before .before .before .before .loop-test .taken) (inv .0) _ _ _ (c .before .before .before .put-pass .ensures)), search needs, search needs, omega arith)
+loop-again c = 
+    let inv = c .before .before .before .before .before .before .before .loop .inv in
+    (rw add-one (next (tableOf (c .before .before .before .before .before .before .before .before .before .before .before .before .before .before .before .before .args .parents .now) (c .before .before .before .before .before .before .before .before .before .before .before .before .before .before .before .before .args .tops .now) (c .before .before .before .before .before .before .before .before .before .before .before .before .before .before .before .before .args .bottoms .now) (c .before .before .before .before .before .before .before .before .before .before .before .before .before .before .before .before .args .marks .now)) _ _ _ _ _ _ _ (c .before .before .before .before .before .before .before .before .before .before .before .before .before .before .before .before .pre .plan) (c .before .before .before .before .before .before .loop-test .taken) (inv .0) _ _ _ (c .before .before .before .put-pass .ensures)), search needs, search needs, omega arith)
 
 same-length : tie.Need-same-length Inv-loop μ-loop
 same-length c = c .before .loop .inv .1
 
 returns : tie.Need-returns Inv-loop μ-loop
-returns c =
+returns c = 
     let inv = c .before .loop .inv in
-    passes-put (tableOf (c .before .before .before .before .before .before .before .before .before .before .before .before .args .parents .now) (c .before .before .before .before .before .before .before .before .before .before .before .before .args .tops .now) (c .before .before .before .before .before .before .before .before .before .before .before .before .args .bottoms .now) (c .before .before .before .before .before .before .before .before .before .before .before .before .args .marks .now)) _ _ _ _ _ (c .loop-test .left) (c .before .before .before .before .before .before .before .before .before .before .before .before .pre .right) (inv .0) (inv .1)
+    passes-put (tableOf (c .before .before .before .before .before .before .before .before .before .before .args .parents .now) (c .before .before .before .before .before .before .before .before .before .before .args .tops .now) (c .before .before .before .before .before .before .before .before .before .before .args .bottoms .now) (c .before .before .before .before .before .before .before .before .before .before .args .marks .now)) _ _ _ _ _ (c .loop-test .left) (c .before .before .before .before .before .before .before .before .before .before .pre .plan .few) (inv .0) (inv .1)
 
 pub put-passes-spec : {M : Type 1} → statement M
 put-passes-spec =
     tie.close
-    (tie.spec
-    Inv-loop
-    μ-loop
-    slice-aggregate-order-jobs
-    order-jobs-requires
-    loop-holds
-    slice-aggregate-put-pass
-    slice-aggregate-put-pass-2
-    put-pass-requires
-    add-place
-    loop-less
-    loop-again
-    same-length
-    returns)
+    (tie.spec Inv-loop μ-loop loop-holds slice-aggregate-put-pass put-pass-requires add-place loop-less loop-again same-length returns)
