@@ -64,6 +64,10 @@ pub record DeepestCommon (ps : List ℕ) (x y r : ℕ) : Type 0 where
   pub above-second : Above ps r y
   pub deepest : (u : ℕ) → Above ps u x → Above ps u y → Above ps u r
 
+-- it is the deepest in either order
+pub common-symmetric : {ps : List ℕ} {x y r : ℕ} → DeepestCommon ps x y r → DeepestCommon ps y x r
+common-symmetric d = record { known = d .known; above-first = d .above-second; above-second = d .above-first; deepest = λ u a b. d .deepest u b a }
+
 -- skips can be set for a settled tree
 pub skippable : (ps depths firsts lasts skips : List ℕ) → Spanned ps depths firsts lasts → length ps ≤ length skips → Skippable ps depths skips
 skippable ps depths firsts lasts skips s room = record { tree = s .tree; depths-room = s .depths-room; skips-room = room; depth-at = s .depth-at }

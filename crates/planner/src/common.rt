@@ -57,8 +57,8 @@ fn climbed(
     skip
 }
 
-// The deepest layout that is above both x and y, a layout being above itself.
-pub fn deepest_common(
+// The deepest layout that is above both x and y, found by climbing from x; a layout is above itself.
+fn climb(
     parents: &[u16],
     skips: &[u16],
     depths: &[u16],
@@ -75,4 +75,25 @@ pub fn deepest_common(
         at = climbed(parents, skips, depths, firsts, lasts, at, y);
     }
     at
+}
+
+// The same from the upper of the two, so that no step is taken where that one is above the other.
+pub fn deepest_common(
+    parents: &[u16],
+    skips: &[u16],
+    depths: &[u16],
+    firsts: &[u16],
+    lasts: &[u16],
+    x: LayoutNumber,
+    y: LayoutNumber,
+) -> LayoutNumber
+    requires { ⌜ Climbable (now parents) (now skips) (now depths) (now firsts) (now lasts) (x .0) (y .0) ⌝ }
+    ensures { λ r. ⌜ DeepestCommon (now (parents .entry)) (x .0) (y .0) (r .0) ⌝ }
+{
+    let here = x.0 as usize;
+    let there = y.0 as usize;
+    if depths[here] <= depths[there] {
+        return climb(parents, skips, depths, firsts, lasts, x, y);
+    }
+    climb(parents, skips, depths, firsts, lasts, y, x)
 }

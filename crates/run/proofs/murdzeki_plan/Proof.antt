@@ -88,7 +88,7 @@ slice-aggregate-plan-table-7 : tie.Need-slice-aggregate-plan-table-7
 slice-aggregate-plan-table-7 c = search needs
 
 plan-table-requires : tie.Need-plan-table-requires
-plan-table-requires c κs = 
+plan-table-requires c κs =
     let held = whole (c .before .before .before .before .before .before .before .before .before .before) in
     (read-right _ _ (held .whole), (held .spanned, c .before .before .before .before .before .before .before .before .before .before .before .before .before .before .before .before .before .before .before .before .before .before .before .before .before .before .before .before .if1 .left))
 

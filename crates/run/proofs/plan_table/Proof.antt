@@ -23,7 +23,7 @@ slice-aggregate-work-out-3 : tie.Need-slice-aggregate-work-out-3
 slice-aggregate-work-out-3 c = search needs
 
 work-out-requires : tie.Need-work-out-requires
-work-out-requires c κs = 
+work-out-requires c κs =
     let s = c .before .before .before .before .before .before .before .before .before .before .before in
     let room = lent-length _ (s .pre .0 .few) in
     record { table = s .pre .0; settled = s .pre .1 .0; partners-length = room; layouts-length = room; work-length = search needs }
@@ -32,12 +32,12 @@ slice-aggregate-print-plan : tie.Need-slice-aggregate-print-plan
 slice-aggregate-print-plan c = search needs
 
 slice-aggregate-print-plan-2 : tie.Need-slice-aggregate-print-plan-2
-slice-aggregate-print-plan-2 c = 
+slice-aggregate-print-plan-2 c =
     let cells = c .before .before .before .before .before .work-out in
     sym (back-length (length (c .before .before .before .before .before .before .before .before .before .before .before .before .before .before .before .before .before .args .tops .now)) (cells .last .1 .1 .1 .1 .1 .1 .1 .0) (cells .kept .1 .1 .1 .1 .1 .1 .1 .0))
 
 slice-aggregate-print-plan-3 : tie.Need-slice-aggregate-print-plan-3
-slice-aggregate-print-plan-3 c = 
+slice-aggregate-print-plan-3 c =
     let cells = c .before .before .before .before .before .before .work-out in
     sym (back-length (length (c .before .before .before .before .before .before .before .before .before .before .before .before .before .before .before .before .before .before .args .tops .now)) (cells .last .1 .1 .1 .1 .1 .1 .1 .1 .0) (cells .kept .1 .1 .1 .1 .1 .1 .1 .1 .0))
 

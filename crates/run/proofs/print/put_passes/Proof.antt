@@ -27,7 +27,7 @@ slice-aggregate-put-pass : tie.Need-slice-aggregate-put-pass Inv-loop μ-loop
 slice-aggregate-put-pass c = search needs
 
 put-pass-requires : tie.Need-put-pass-requires Inv-loop μ-loop
-put-pass-requires c κs = 
+put-pass-requires c κs =
     let pre = c .before .before .before .before .before .before .before .before .before .before .before .before .pre in
     let inv = c .before .before .before .loop .inv in
     placeable (tableOf (c .before .before .before .before .before .before .before .before .before .before .before .before .args .parents .now) (c .before .before .before .before .before .before .before .before .before .before .before .before .args .tops .now) (c .before .before .before .before .before .before .before .before .before .before .before .before .args .bottoms .now) (c .before .before .before .before .before .before .before .before .before .before .before .before .args .marks .now)) _ _ _ _ _ _ _ (pre .plan) (c .before .before .loop-test .taken) (inv .0) (pre .order-length) (inv .2) (pre .partners-room) (pre .layouts-room)
@@ -39,7 +39,7 @@ loop-less : tie.Need-loop-less Inv-loop μ-loop
 loop-less c = search needs
 
 loop-again : tie.Need-loop-again Inv-loop μ-loop
-loop-again c = 
+loop-again c =
     let inv = c .before .before .before .before .before .before .before .loop .inv in
     (rw add-one (next (tableOf (c .before .before .before .before .before .before .before .before .before .before .before .before .before .before .before .before .args .parents .now) (c .before .before .before .before .before .before .before .before .before .before .before .before .before .before .before .before .args .tops .now) (c .before .before .before .before .before .before .before .before .before .before .before .before .before .before .before .before .args .bottoms .now) (c .before .before .before .before .before .before .before .before .before .before .before .before .before .before .before .before .args .marks .now)) _ _ _ _ _ _ _ (c .before .before .before .before .before .before .before .before .before .before .before .before .before .before .before .before .pre .plan) (c .before .before .before .before .before .before .loop-test .taken) (inv .0) _ _ _ (c .before .before .before .put-pass .ensures)), search needs, search needs, omega arith)
 
@@ -47,7 +47,7 @@ same-length : tie.Need-same-length Inv-loop μ-loop
 same-length c = c .before .loop .inv .1
 
 returns : tie.Need-returns Inv-loop μ-loop
-returns c = 
+returns c =
     let inv = c .before .loop .inv in
     passes-put (tableOf (c .before .before .before .before .before .before .before .before .before .before .args .parents .now) (c .before .before .before .before .before .before .before .before .before .before .args .tops .now) (c .before .before .before .before .before .before .before .before .before .before .args .bottoms .now) (c .before .before .before .before .before .before .before .before .before .before .args .marks .now)) _ _ _ _ _ (c .loop-test .left) (c .before .before .before .before .before .before .before .before .before .before .pre .plan .few) (inv .0) (inv .1)
 
