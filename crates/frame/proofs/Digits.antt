@@ -1,141 +1,187 @@
--- Laws of digits in the shapes that the code asks: a byte's two ranges, one digit more of a line, one digit more of a number.
+-- Laws of digits in the shapes that the code asks: one byte, the four digits of a field, the two of a kind.
 -- Assumes nothing.
-use Prim.Native.Nat.{ℕ, zero, suc, _+_, _-_, _*_, _^_, _<_, _≤_}
+use Prim.Native.Nat.{ℕ, zero, suc, _+_, _-_, _*_, _<_, _≤_}
 use mathlib.Core.Path.{_≡_, refl, sym, _∙_}
-use mathlib.Core.Bool.{Bool, true, false, true≢false, and-true, and-false, or-false}
-use mathlib.Core.List.{List, [], _∷_, _++_}
+use mathlib.Core.Bool.{Bool, true, false, cond, _&&_, true≢false, and-true, and-false, or-false}
+use mathlib.Core.List.{List, [], _∷_}
 use native.Mathlib.Omega.{arith}
-use native.Mathlib.Nat.{pow-suc}
-use native.Mathlib.Numerals.{add-one}
+use native.Mathlib.Nat.{add-zero}
 use lib.ListN.{length, getD, take, drop, length-drop}
-use lib.Seq.{take-suc, getD-drop}
-use lib.Dec.{eqb, leb}
-use borrow.Author.Tests.{ne-eqb, eq-eqb, leb-true, leb-false, le-leb, lt-leb}
+use lib.Seq.{getD-drop}
+use lib.Dec.{eqb, ltb, leb}
+use borrow.Author.Tests.{ne-eqb, eqb-true, eq-eqb, leb-true, leb-false, le-leb, lt-leb, lt-ltb, le-ltb}
 use Rattle.model.specs.Lists.{all}
-use Rattle.model.specs.Table.{isDigit, digitValue, numberAfter}
-use Rattle.frame.specs.Lines.{digitLine, both-true, digit-line-within, end-within}
+use Rattle.model.specs.Table.{isDigit, digitValue, numberAfter, kindOf}
+use Rattle.frame.specs.Fields.{digitRead, FieldRead, KindRead}
+use Rattle.frame.specs.Lines.{both-true}
 
 -- ---- one byte
 
 -- of the bytes to 57 those from 48 on are digits
-pub digit-to-57 : (b : ℕ) → b ≤ 57 → leb 48 b ≡ isDigit b
+digit-to-57 : (b : ℕ) → b ≤ 57 → leb 48 b ≡ isDigit b
 unfolding isDigit
 digit-to-57 b h = rw (le-leb b 57 h, lt-leb 65 b (omega arith), and-true (leb 48 b), or-false (leb 48 b))
 
 -- of those to 70 those from 65 on
-pub digit-to-70 : (b : ℕ) → 57 < b → b ≤ 70 → leb 65 b ≡ isDigit b
+digit-to-70 : (b : ℕ) → 57 < b → b ≤ 70 → leb 65 b ≡ isDigit b
 unfolding isDigit
 digit-to-70 b g h = rw (lt-leb b 57 g, and-false (leb 48 b), le-leb b 70 h, and-true (leb 65 b))
 
-pub no-digit-past-70 : (b : ℕ) → 70 < b → false ≡ isDigit b
+no-digit-past-70 : (b : ℕ) → 70 < b → false ≡ isDigit b
 unfolding isDigit
 no-digit-past-70 b h = rw (lt-leb b 57 (omega arith), and-false (leb 48 b), lt-leb b 70 h, and-false (leb 65 b))
 
--- the value of a digit to 57
-pub record LowDigit (b : ℕ) : Type 0 where
-  pub from : 48 ≤ b
-  pub value : b - 48 ≡ digitValue b
+-- a digit lies in one of two ranges
+data Digit (b : ℕ) : Type 0 where
+  low : 48 ≤ b → b ≤ 57 → digitValue b ≡ b - 48 → Digit b
+  high : 65 ≤ b → b ≤ 70 → digitValue b ≡ b - 55 → Digit b
 
-pub low-digit : (b : ℕ) → isDigit b ≡ true → b ≤ 57 → LowDigit b
+digit : (b : ℕ) → isDigit b ≡ true → Digit b
 unfolding digitValue
-low-digit b d h =
-    record { from = leb-true 48 b (digit-to-57 b h ∙ d); value = rw (le-leb b 57 h) }
-
--- the value of a digit past 57
-pub record HighDigit (b : ℕ) : Type 0 where
-  pub from : 65 ≤ b
-  pub to : b ≤ 70
-  pub value : b - 55 ≡ digitValue b
-
-pub high-digit : (b : ℕ) → isDigit b ≡ true → 57 < b → HighDigit b
-unfolding digitValue
-high-digit b d h = go (leb b 70) refl
+digit b d = go (leb b 57) refl
   where
-    go : (t : Bool) → leb b 70 ≡ t → HighDigit b
-    go true e =
+    past-57 : 57 < b → (t : Bool) → leb b 70 ≡ t → Digit b
+    past-57 h true e =
         let to = leb-true b 70 e in
-        record { from = leb-true 65 b (digit-to-70 b h to ∙ d); to = to; value = rw (lt-leb b 57 h) }
-    go false e = absurd (true≢false (sym d ∙ sym (no-digit-past-70 b (leb-false b 70 e))))
+        high (leb-true 65 b (digit-to-70 b h to ∙ d)) to (rw (lt-leb b 57 h))
+    past-57 h false e = absurd (true≢false (sym d ∙ sym (no-digit-past-70 b (leb-false b 70 e))))
 
--- ---- a line of digits
+    go : (t : Bool) → leb b 57 ≡ t → Digit b
+    go true e = let to = leb-true b 57 e in low (leb-true 48 b (digit-to-57 b to ∙ d)) to (rw e)
+    go false e = past-57 (leb-false b 57 e) (leb b 70) refl
 
-all-suc : (i : ℕ) (s : List ℕ) → all isDigit (take i s) ≡ true → isDigit (getD s i 0) ≡ true → i < length s → all isDigit (take (suc i) s) ≡ true
-unfolding all
-all-suc i [] h d l = absurd (omega arith)
-all-suc zero (b ∷ bs) h d l = rw d
-all-suc (suc i) (b ∷ bs) h d l =
-    let p = both-true (isDigit b) (all isDigit (take i bs)) h in
-    rw (p .0) (all-suc i bs (p .1) d (omega arith))
+below-16 : (b : ℕ) → isDigit b ≡ true → digitValue b < 16
+below-16 b d = go (digit b d)
+  where
+    go : Digit b → digitValue b < 16
+    go (low from to v) = omega arith
+    go (high from to v) = omega arith
 
--- one byte more that is a digit
-pub all-more : (i : ℕ) (s : List ℕ) → all isDigit (take i s) ≡ true → isDigit (getD s i 0) ≡ true → i < length s → all isDigit (take (i + 1) s) ≡ true
-all-more i s h d l = rw add-one (all-suc i s h d l)
+-- P, and b is none of the n bytes from `from` on
+abbrev Without : Type 0 → ℕ → ℕ → ℕ → Type 0
+Without P b from zero = P
+Without P b from (suc n) = Without P b from n × (b ≡ from + n → ⊥)
 
--- one that is none
-all-not : (n i : ℕ) (s : List ℕ) → i < n → i < length s → isDigit (getD s i 0) ≡ false → all isDigit (take n s) ≡ false
-unfolding all
-all-not n i [] g l d = absurd (omega arith)
-all-not zero i (b ∷ bs) g l d = absurd (omega arith)
-all-not (suc n) zero (b ∷ bs) g l d = rw d
-all-not (suc n) (suc i) (b ∷ bs) g l d = rw (all-not n i bs (omega arith) (omega arith) d, and-false (isDigit b))
+rest-of : (P : Type 0) (b from n : ℕ) → Without P b from n → P
+rest-of P b from zero w = w
+rest-of P b from (suc n) w = rest-of P b from n (w .0)
 
-pub no-end : (n : ℕ) (s : List ℕ) → (getD s n 0 ≡ 10 → ⊥) → false ≡ digitLine n s
-unfolding digitLine
-no-end n s h = rw (ne-eqb (getD s n 0) 10 h, and-false (all isDigit (take n s)))
+outside : (P : Type 0) (b from n : ℕ) → Without P b from n → from ≤ b → b < from + n → ⊥
+outside P b from zero w l u = omega arith
+outside P b from (suc n) w l u = outside P b from n (w .0) l (omega (arith, w .1))
 
-pub no-end-past : (n : ℕ) (s : List ℕ) → length s ≤ n → false ≡ digitLine n s
-no-end-past n s h = no-end n s (λ e. let l = end-within s n e in omega arith)
+-- a byte that is none of the 16 digits
+pub no-digit : (b : ℕ) → Without (Without (Unit {0}) b 48 10) b 65 6 → isDigit b ≡ false
+no-digit b w = go (isDigit b) refl
+  where
+    in-no-range : Digit b → ⊥
+    in-no-range (low from to v) =
+        outside (Unit {0}) b 48 10 (rest-of (Without (Unit {0}) b 48 10) b 65 6 w) from (omega arith)
+    in-no-range (high from to v) = outside (Without (Unit {0}) b 48 10) b 65 6 w from (omega arith)
 
-pub no-digit : (n i : ℕ) (s : List ℕ) → i < n → i < length s → isDigit (getD s i 0) ≡ false → false ≡ digitLine n s
-unfolding digitLine
-no-digit n i s g l d = rw (all-not n i s g l d)
+    go : (t : Bool) → isDigit b ≡ t → isDigit b ≡ false
+    go true d = absurd (in-no-range (digit b d))
+    go false d = d
 
-pub digits-and-end : (n : ℕ) (s : List ℕ) → all isDigit (take n s) ≡ true → getD s n 0 ≡ 10 → true ≡ digitLine n s
-unfolding digitLine
-digits-and-end n s h e = rw (h, eq-eqb (getD s n 0) 10 e)
+-- ---- a field
 
-all-at : (n i : ℕ) (s : List ℕ) → all isDigit (take n s) ≡ true → i < n → i < length s → isDigit (getD s i 0) ≡ true
-unfolding all
-all-at n i [] h g l = absurd (omega arith)
-all-at zero i (b ∷ bs) h g l = absurd (omega arith)
-all-at (suc n) zero (b ∷ bs) h g l = both-true (isDigit b) (all isDigit (take n bs)) h .0
-all-at (suc n) (suc i) (b ∷ bs) h g l = all-at n i bs (both-true (isDigit b) (all isDigit (take n bs)) h .1) (omega arith) (omega arith)
+four-front : (l : List ℕ) → 4 ≤ length l → take 4 l ≡ getD l 0 0 ∷ getD l 1 0 ∷ getD l 2 0 ∷ getD l 3 0 ∷ []
+four-front [] h = absurd (omega arith)
+four-front (a ∷ []) h = absurd (omega arith)
+four-front (a ∷ b ∷ []) h = absurd (omega arith)
+four-front (a ∷ b ∷ c ∷ []) h = absurd (omega arith)
+four-front (a ∷ b ∷ c ∷ d ∷ l) h = refl
 
--- each byte of a line of digits is one
-pub digit-at : (n i : ℕ) (s : List ℕ) → digitLine n s ≡ true → i < n → isDigit (getD s i 0) ≡ true
-unfolding digitLine
-digit-at n i s h g =
-    let within = digit-line-within n s h in
-    all-at n i s (both-true (all isDigit (take n s)) (eqb (getD s n 0) 10) h .0) g (omega arith)
+four-at : (s : List ℕ) (at : ℕ) → at + 4 ≤ length s
+    → take 4 (drop at s) ≡ getD s at 0 ∷ getD s (at + 1) 0 ∷ getD s (at + 2) 0 ∷ getD s (at + 3) 0 ∷ []
+four-at s at h =
+    let inside : 4 ≤ length (drop at s) = rw length-drop (omega arith) in
+    four-front (drop at s) inside
+    ∙ rw (getD-drop at s 0 0, getD-drop at s 1 0, getD-drop at s 2 0, getD-drop at s 3 0, add-zero)
 
--- ---- a number of up to four digits
+-- four numbers, added up by their places
+abbrev pub places : ℕ → ℕ → ℕ → ℕ → ℕ
+places a b c d = a * 4096 + b * 256 + c * 16 + d
 
-number-snoc : (v : ℕ) (ds : List ℕ) (d : ℕ) → numberAfter v (ds ++ d ∷ []) ≡ numberAfter v ds * 16 + digitValue d
+-- what each byte counts, by whether it is a digit
+module _ (a b c d : ℕ) (p q r s : Bool) where
+  abbrev counted : ℕ
+  counted = places (cond p (digitValue a) 65536) (cond q (digitValue b) 65536) (cond r (digitValue c) 65536) (cond s (digitValue d) 65536)
+
+  abbrev Tells : Type 0
+  Tells = (ltb counted 65536 ≡ (p && (q && (r && (s && true))))) × (counted < 65536 → counted ≡ numberAfter 0 (a ∷ b ∷ c ∷ d ∷ []))
+
+tells : (a b c d : ℕ) (p q r s : Bool) → isDigit a ≡ p → isDigit b ≡ q → isDigit c ≡ r → isDigit d ≡ s → Tells a b c d p q r s
 unfolding numberAfter
-number-snoc v [] d = refl
-number-snoc v (e ∷ ds) d = number-snoc (v * 16 + digitValue e) ds d
+tells a b c d false q r s e f g h = omega (arith, le-ltb)
+tells a b c d true false r s e f g h = omega (arith, le-ltb)
+tells a b c d true true false s e f g h = omega (arith, le-ltb)
+tells a b c d true true true false e f g h = omega (arith, le-ltb)
+tells a b c d true true true true e f g h =
+    omega (arith, lt-ltb, below-16 a e, below-16 b f, below-16 c g, below-16 d h)
 
--- one digit more
-pub number-more : (s : List ℕ) (at i v d : ℕ) → at + i < length s → v ≡ numberAfter 0 (take i (drop at s)) → d ≡ digitValue (getD s (at + i) 0)
-    → v * 16 + d ≡ numberAfter 0 (take (i + 1) (drop at s))
-number-more s at i v d l e q =
-    let within : i < length (drop at s) = rw length-drop (omega arith) in
-    rw (add-one, take-suc (drop at s) i 0 within, number-snoc 0 (take i (drop at s)) (getD (drop at s) i 0), getD-drop at s i 0, e, q)
+pub field-read : (s : List ℕ) (at : ℕ) → at + 4 ≤ length s
+    → FieldRead s at
+    (places (digitRead (getD s at 0)) (digitRead (getD s (at + 1) 0)) (digitRead (getD s (at + 2) 0)) (digitRead (getD s (at + 3) 0)))
+unfolding all
+field-read s at h =
+    let t = tells (getD s at 0) (getD s (at + 1) 0) (getD s (at + 2) 0) (getD s (at + 3) 0) _ _ _ _ refl refl refl refl in
+    record { tells = rw (four-at s at h) (t .0); value = rw (four-at s at h) (t .1) }
 
--- i digits are below 16 ^ i, so there is room for one more
-pub room-for-digit : (i v : ℕ) → i < 4 → v < 16 ^ i → v < 4096
-room-for-digit zero v h b = omega arith
-room-for-digit (suc zero) v h b = omega arith
-room-for-digit (suc (suc zero)) v h b = omega arith
-room-for-digit (suc (suc (suc zero))) v h b = omega arith
-room-for-digit (suc (suc (suc (suc i)))) v h b = absurd (omega arith)
+-- ---- the kind
 
-pub bound-more : (i v d : ℕ) → v < 16 ^ i → d < 16 → v * 16 + d < 16 ^ (i + 1)
-bound-more i v d b h = rw (add-one, pow-suc) (omega arith)
+same-test : (x y : Bool) → (x ≡ true → y ≡ true) → (y ≡ true → x ≡ true) → x ≡ y
+same-test true y f g = sym (f refl)
+same-test false true f g = g refl
+same-test false false f g = refl
 
--- the m digits from k on of a line of n
-pub digits-within : (n k m : ℕ) (s : List ℕ) → digitLine n s ≡ true → m ≤ 4 → k + m ≤ n
-    → (m ≤ 4) × (k + m ≤ length s) × ((i : ℕ) → i < m → isDigit (getD s (k + i) 0) ≡ true)
-digits-within n k m s h few inside =
-    let within = digit-line-within n s h in
-    (few, omega arith, λ i l. digit-at n (k + i) s h (omega arith))
+low-digit : (b : ℕ) → 48 ≤ b → b ≤ 57 → (isDigit b ≡ true) × (digitValue b ≡ b - 48)
+unfolding digitValue
+low-digit b from to = (sym (digit-to-57 b to) ∙ le-leb 48 b from, rw (le-leb b 57 to))
+
+spelled : (a b k : ℕ) → k < 10 → Digit a → Digit b → digitValue a * 16 + digitValue b ≡ k → (a ≡ 48) × (b ≡ 48 + k)
+spelled a b k h (low f t v) (low f′ t′ v′) e = omega arith
+spelled a b k h (low f t v) (high f′ t′ v′) e = absurd (omega arith)
+spelled a b k h (high f t v) y e = absurd (omega arith)
+
+-- a kind below 10 is spelled by '0' and one other byte
+kind-bytes : (s : List ℕ) (k : ℕ) → 2 ≤ length s → k < 10
+    → (all isDigit (take 2 s) && eqb (kindOf s) k) ≡ (eqb (getD s 0 0) 48 && eqb (getD s 1 0) (48 + k))
+unfolding all numberAfter
+kind-bytes [] k h u = absurd (omega arith)
+kind-bytes (a ∷ []) k h u = absurd (omega arith)
+kind-bytes (a ∷ b ∷ s) k h u = same-test _ _ to-bytes of-bytes
+  where
+    to-bytes : (all isDigit (a ∷ b ∷ []) && eqb (kindOf (a ∷ b ∷ s)) k) ≡ true → (eqb a 48 && eqb b (48 + k)) ≡ true
+    to-bytes e =
+        let p = both-true (all isDigit (a ∷ b ∷ [])) (eqb (kindOf (a ∷ b ∷ s)) k) e in
+        let d = both-true (isDigit a) (isDigit b && true) (p .0) in
+        let f = both-true (isDigit b) true (d .1) in
+        let n = eqb-true (kindOf (a ∷ b ∷ s)) k (p .1) in
+        let q = spelled a b k u (digit a (d .0)) (digit b (f .0)) (omega arith) in
+        rw (eq-eqb a 48 (q .0), eq-eqb b (48 + k) (q .1))
+
+    of-bytes : (eqb a 48 && eqb b (48 + k)) ≡ true → (all isDigit (a ∷ b ∷ []) && eqb (kindOf (a ∷ b ∷ s)) k) ≡ true
+    of-bytes e =
+        let p = both-true (eqb a 48) (eqb b (48 + k)) e in
+        let first = eqb-true a 48 (p .0) in
+        let second = eqb-true b (48 + k) (p .1) in
+        let x = low-digit a (omega arith) (omega arith) in
+        let y = low-digit b (omega arith) (omega arith) in
+        rw (x .0, y .0, eq-eqb (kindOf (a ∷ b ∷ s)) k (omega arith))
+
+-- bytes below '0' and '0' itself spell no kind
+less-48 : (b k : ℕ) → 0 < k → eqb (b - 48) k ≡ eqb b (48 + k)
+less-48 b k h =
+    same-test _ _
+    (λ e. let q = eqb-true (b - 48) k e in eq-eqb b (48 + k) (omega arith))
+    (λ e. let q = eqb-true b (48 + k) e in eq-eqb (b - 48) k (omega arith))
+
+-- where the first byte is '0' the second tells the kind
+pub kind-read : (s : List ℕ) → 2 ≤ length s → getD s 0 0 ≡ 48 → KindRead s (getD s 1 0 - 48)
+kind-read s h e k l u =
+    less-48 (getD s 1 0) k l ∙ sym (kind-bytes s k h (omega arith) ∙ rw (eq-eqb (getD s 0 0) 48 e))
+
+pub kind-unknown : (s : List ℕ) → 2 ≤ length s → (getD s 0 0 ≡ 48 → ⊥) → KindRead s 0
+kind-unknown s h e k l u =
+    ne-eqb 0 k (λ q. omega arith) ∙ sym (kind-bytes s k h (omega arith) ∙ rw (ne-eqb (getD s 0 0) 48 e))

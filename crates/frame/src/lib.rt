@@ -1,12 +1,12 @@
 // One line of a table, to its frame (document 01, "The table"). A frame's line is 6 or 10 digits and byte 0A, so its bytes stand at
 // fixed positions, and nothing is searched for.
-ghost use mathlib.Core.Bool.{true};
+ghost use mathlib.Core.Bool.{true, false};
 ghost use mathlib.Core.Path.{_≡_};
-ghost use Prim.Native.Nat.{ℕ, _+_, _≤_, _<_};
-ghost use lib.ListN.{length, getD, take, drop};
-ghost use Rattle.model.specs.Table.{isDigit, digitValue, numberAfter, frameOf};
+ghost use Prim.Native.Nat.{_+_, _≤_};
+ghost use lib.ListN.{length, drop};
+ghost use Rattle.model.specs.Table.{frameOf};
 ghost use Rattle.frame.specs.Answer.{firstLine, frameAnswer, lineAnswer};
-ghost use Rattle.frame.specs.Lines.{digitLine};
+ghost use Rattle.frame.specs.Fields.{digitRead, FieldRead, KindRead, endsAfter};
 use model::Frame;
 use model::FrameRead;
 use model::LayoutNumber;
@@ -20,61 +20,68 @@ pub const LONG_LINE: usize = 11;
 // Byte 0A, which ends each line.
 const LINE_END: u8 = 10;
 
-// Upper-case hexadecimal.
-fn is_digit(b: u8) -> bool
-    ensures { λ r. ⌜ r ≡ isDigit b ⌝ }
+// What a wrong digit counts: more than any field of four right ones.
+const WRONG_DIGIT: u32 = 65536;
+
+// Upper-case hexadecimal. An arm for each digit compiles to a table; two ranges would compile to branches, and which digit comes next
+// is not to be foreseen.
+fn digit_value(b: u8) -> u32
+    ensures { λ r. ⌜ (r ≡ digitRead b) × (r ≤ 65536) ⌝ }
 {
-    if b <= 57 {
-        return 48 <= b;
+    match b {
+        b'0' => 0,
+        b'1' => 1,
+        b'2' => 2,
+        b'3' => 3,
+        b'4' => 4,
+        b'5' => 5,
+        b'6' => 6,
+        b'7' => 7,
+        b'8' => 8,
+        b'9' => 9,
+        b'A' => 10,
+        b'B' => 11,
+        b'C' => 12,
+        b'D' => 13,
+        b'E' => 14,
+        b'F' => 15,
+        _ => WRONG_DIGIT,
     }
-    if b <= 70 {
-        return 65 <= b;
-    }
-    false
 }
 
-fn digit_value(b: u8) -> u16
-    requires { ⌜ isDigit b ≡ true ⌝ }
-    ensures { λ r. ⌜ (r ≡ digitValue b) × (r < 16) ⌝ }
+// The field of four digits at `at`; WRONG_DIGIT or more exactly where one of them is wrong.
+fn field(s: &[u8], at: usize) -> u32
+    requires { ⌜ at + 4 ≤ length (now s) ⌝ }
+    ensures { λ r. ⌜ FieldRead (now (s .entry)) at r ⌝ }
 {
-    if b <= 57 {
-        return (b - 48) as u16;
-    }
-    (b - 55) as u16
+    digit_value(s[at]) * 4096
+        + digit_value(s[at + 1]) * 256
+        + digit_value(s[at + 2]) * 16
+        + digit_value(s[at + 3])
 }
 
-// n digits and then byte 0A stand at the front.
-fn digit_line(s: &[u8], n: usize) -> bool
-    ensures { λ r. ⌜ r ≡ digitLine n (now (s .entry)) ⌝ }
+// The kind of a line, 1 to 4; any other number where it is unknown.
+fn kind_of(s: &[u8]) -> u8
+    requires { ⌜ 2 ≤ length (now s) ⌝ }
+    ensures { λ r. ⌜ KindRead (now (s .entry)) r ⌝ }
+{
+    if s[0] != b'0' {
+        return 0;
+    }
+    if s[1] < b'0' {
+        return 0;
+    }
+    s[1] - b'0'
+}
+
+// Byte 0A stands after n bytes.
+fn ends_after(s: &[u8], n: usize) -> bool
+    ensures { λ r. ⌜ r ≡ endsAfter n (now (s .entry)) ⌝ }
 {
     if s.len() <= n {
         return false;
     }
-    if s[n] != LINE_END {
-        return false;
-    }
-    let mut i = 0;
-    while i < n {
-        if !is_digit(s[i]) {
-            return false;
-        }
-        i += 1;
-    }
-    true
-}
-
-// What the n digits from `at` on spell.
-fn number(s: &[u8], at: usize, n: usize) -> u16
-    requires { ⌜ (n ≤ 4) × (at + n ≤ length (now s)) × ((i : ℕ) → i < n → isDigit (getD (now s) (at + i) 0) ≡ true) ⌝ }
-    ensures { λ r. ⌜ r ≡ numberAfter 0 (take n (drop at (now (s .entry)))) ⌝ }
-{
-    let mut value: u16 = 0;
-    let mut i = 0;
-    while i < n {
-        value = value * 16 + digit_value(s[at + i]);
-        i += 1;
-    }
-    value
+    s[n] == LINE_END
 }
 
 fn no_frame(line: u16) -> FrameRead
@@ -88,23 +95,35 @@ fn no_frame(line: u16) -> FrameRead
 
 // 01 P.
 fn short_frame(s: &[u8], line: u16) -> FrameRead
-    requires { ⌜ digitLine 6 (now s) ≡ true ⌝ }
+    requires { ⌜ endsAfter 6 (now s) ≡ true ⌝ }
     ensures { λ r. ⌜ frameAnswer r ≡ lineAnswer line (frameOf (firstLine (now (s .entry)))) ⌝ }
 {
-    if number(s, 0, 2) == 1 {
-        return FrameRead::Read(Frame::Layout(LayoutNumber(number(s, 2, 4))));
+    let parent = field(s, 2);
+    if WRONG_DIGIT <= parent {
+        return no_frame(line);
+    }
+    if kind_of(s) == 1 {
+        return FrameRead::Read(Frame::Layout(LayoutNumber(parent as u16)));
     }
     no_frame(line)
 }
 
 // 02 T B, 04 T B and 03 N M.
 fn long_frame(s: &[u8], line: u16) -> FrameRead
-    requires { ⌜ digitLine 10 (now s) ≡ true ⌝ }
+    requires { ⌜ (endsAfter 6 (now s) ≡ false) × (endsAfter 10 (now s) ≡ true) ⌝ }
     ensures { λ r. ⌜ frameAnswer r ≡ lineAnswer line (frameOf (firstLine (now (s .entry)))) ⌝ }
 {
-    let kind = number(s, 0, 2);
-    let first = number(s, 2, 4);
-    let second = number(s, 6, 4);
+    let first = field(s, 2);
+    let second = field(s, 6);
+    if WRONG_DIGIT <= first {
+        return no_frame(line);
+    }
+    if WRONG_DIGIT <= second {
+        return no_frame(line);
+    }
+    let first = first as u16;
+    let second = second as u16;
+    let kind = kind_of(s);
     match kind {
         2 => FrameRead::Read(Frame::Job(LayoutNumber(first), LayoutNumber(second))),
         4 => FrameRead::Read(Frame::Solo(LayoutNumber(first), LayoutNumber(second))),
@@ -122,10 +141,10 @@ pub fn read_frame(bytes: &[u8], at: usize, line: u16) -> FrameRead
         return no_frame(line);
     }
     let s = &bytes[at..];
-    if digit_line(s, 6) {
+    if ends_after(s, 6) {
         return short_frame(s, line);
     }
-    if digit_line(s, 10) {
+    if ends_after(s, 10) {
         return long_frame(s, line);
     }
     no_frame(line)

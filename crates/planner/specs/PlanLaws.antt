@@ -22,7 +22,7 @@ use Rattle.matching.specs.Foremost.{foremost}
 use Rattle.settle.specs.Spanned.{Spanned}
 use Rattle.orders.specs.Accepted.{Accepted, Lent, accepted-job}
 use Rattle.planner.specs.Checks.{checkVerdict}
-use Rattle.planner.specs.Steps.{Filling, Filled}
+use Rattle.sweeping.specs.Steps.{Filling, Filled}
 use Rattle.planner.specs.declared.jobs.JobCheck.{JobCheck}
 use Rattle.planner.specs.declared.jobs.JobCheck.the-variants as check
 

@@ -1,5 +1,4 @@
 // The pass planner (document 01, *Plan*): the greedy rule over the running order, by a sweep with lookups.
-mod common;
 mod jobs;
 mod shelf;
 mod sweep;
@@ -21,7 +20,7 @@ ghost use Rattle.model.specs.Planning.{jobsVerdict};
 ghost use Rattle.model.specs.Outcomes.{PlannedAs, PlanOutcome};
 ghost use Rattle.settle.specs.Spanned.{Spanned};
 ghost use Rattle.orders.specs.Accepted.{Lent};
-ghost use Rattle.planner.specs.Steps.{Filling, WorkedOut, Filled};
+ghost use Rattle.sweeping.specs.Steps.{Filling, WorkedOut, Filled};
 
 // Work cells that a plan needs.
 pub const WORK: usize = 32768;

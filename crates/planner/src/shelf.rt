@@ -5,8 +5,8 @@ use model::Rank;
 ghost use mathlib.Core.Path.{_≡_};
 ghost use Prim.Native.Nat.{suc, _^_, _<_, _≤_, min};
 ghost use lib.ListN.{length};
-ghost use Rattle.planner.specs.Shelf.{Shelf, Cleared, Put, LookedUp};
-ghost use Rattle.planner.specs.VisitCount.{levelsInside};
+ghost use Rattle.sweeping.specs.Shelf.{Shelf, Cleared, Put, LookedUp};
+ghost use Rattle.sweeping.specs.VisitCount.{levelsInside};
 
 // How many slots a shelf of so many levels has.
 fn slot_count(levels: usize) -> usize

@@ -1,6 +1,5 @@
 // The sweep over the running order (000, Algorithm 2): each job still free at its turn takes the smallest place on the shelf in the span of
 // its top.
-use crate::common;
 use crate::shelf;
 use model::LayoutNumber;
 use model::Rank;
@@ -11,7 +10,7 @@ ghost use mathlib.Core.Path.{_≡_};
 ghost use Prim.Native.Nat.{ℕ, _+_, _<_, _≤_};
 ghost use lib.ListN.{length, getD, set};
 ghost use Rattle.model.specs.Jobs.{tableOf};
-ghost use Rattle.planner.specs.Steps.{Reaching, Deep, Reached, startOf, Choosing, Chose, Joining, Joined, Offering, Sweeping};
+ghost use Rattle.sweeping.specs.Steps.{Reaching, Deep, Reached, startOf, Choosing, Chose, Joining, Joined, Offering, Sweeping};
 
 // Where the running order, the slots by place, the places by reach and the shelf stand in the work cells.
 pub const ORDER: usize = 4096;

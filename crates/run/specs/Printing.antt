@@ -24,8 +24,8 @@ use Rattle.matching.specs.Passes.{pairsIn, vertices, vertices-length, greedy-wi
 use Rattle.matching.specs.Partners.{pair-partners, partner-none, passes-distinct, passes-known, jobs-counted}
 use Rattle.matching.specs.RunningOrder.{running-length, running-mem}
 use Rattle.orders.specs.Prepared.{orderCells, jobAt}
-use Rattle.planner.specs.Sweep.{free, remaining}
-use Rattle.planner.specs.Turn.{remaining-paired, remaining-free, remaining-joined}
+use Rattle.sweeping.specs.Sweep.{free, remaining}
+use Rattle.sweeping.specs.Turn.{remaining-paired, remaining-free, remaining-joined}
 use Rattle.run.specs.Writing.{Appended, pairLine, singleLine}
 
 -- ---- what a plan's results hold, job by job

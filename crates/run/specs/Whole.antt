@@ -24,7 +24,7 @@ use Rattle.model.specs.declared.TableRead.the-variants as table-read
 use Rattle.tree.specs.Numbers.{numbers-length, numbers-at}
 use Rattle.table.specs.Steps.{Unused, BuffersReady, TableHeld, LinesOutcome}
 use Rattle.orders.specs.Accepted.{Accepted, plan-accepted}
-use Rattle.planner.specs.Steps.{WorkedOut}
+use Rattle.sweeping.specs.Steps.{WorkedOut}
 use Rattle.run.specs.Writing.{Appended, sumsLine, Printed, printed-all}
 use Rattle.run.specs.Sound.{read-accepted}
 use Rattle.run.specs.Printing.{PlanAt, Printing, printing-all, lines-room}

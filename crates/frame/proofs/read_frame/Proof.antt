@@ -1,4 +1,4 @@
--- `frame::read_frame` meets its contract: a frame's line is 6 or 10 digits and 0A.
+-- `frame::read_frame` meets its contract: a frame's line ends after 6 or 10 bytes.
 -- Assumes nothing.
 use Prim.Native.Nat.{ℕ, _-_}
 use mathlib.Core.Path.{_≡_, refl, sym, _∙_}
@@ -7,8 +7,7 @@ use native.Mathlib.Nat.{le-of-lt, le-refl}
 use lib.ListN.{length, take, drop, length-drop, drop-of-length-le}
 use lib.Seq.{take-all}
 use borrow.Author.Needs.{needs}
-use Rattle.model.specs.Lists.{all}
-use Rattle.frame.specs.Lines.{no-frame, digitLine}
+use Rattle.frame.proofs.Frames.{no-ends}
 use Rattle.frame.proofs.read_frame.Statement.{statement}
 use Rattle.frame.proofs.read_frame.Tie as tie
 
@@ -20,11 +19,10 @@ no-frame-requires : tie.Need-no-frame-requires
 no-frame-requires c κs = search needs
 
 returns : tie.Need-returns
-unfolding digitLine all
 returns c =
     let s = c .before .before .before .args .bytes .now in
     let past = drop-of-length-le s (le-of-lt (c .before .if1 .taken)) in
-    rw (c .no-frame .ensures, past, no-frame [] refl refl)
+    rw (c .no-frame .ensures, past, no-ends [] refl refl)
 
 sub-s : tie.Need-sub-s
 sub-s c = search needs
@@ -35,22 +33,23 @@ part-s-start c = search needs
 part-s-end : tie.Need-part-s-end
 part-s-end c = search needs
 
-digit-line-requires : tie.Need-digit-line-requires
-digit-line-requires c κs = search needs
+ends-after-requires : tie.Need-ends-after-requires
+ends-after-requires c κs = search needs
 
 short-frame-requires : tie.Need-short-frame-requires
-short-frame-requires c κs = sym (c .before .digit-line .ensures) ∙ c .if2 .taken
+short-frame-requires c κs = sym (c .before .ends-after .ensures) ∙ c .if2 .taken
 
 returns-2 : tie.Need-returns-2
 returns-2 c =
     let a = c .before .before .before .before .before .before .args in
     rw (← rest (a .bytes .now) (a .at)) (c .short-frame .ensures)
 
-digit-line-requires-2 : tie.Need-digit-line-requires-2
-digit-line-requires-2 c κs = search needs
+ends-after-requires-2 : tie.Need-ends-after-requires-2
+ends-after-requires-2 c κs = search needs
 
 long-frame-requires : tie.Need-long-frame-requires
-long-frame-requires c κs = sym (c .before .digit-line2 .ensures) ∙ c .if3 .taken
+long-frame-requires c κs =
+    (sym (c .before .before .before .ends-after .ensures) ∙ c .before .before .if2 .left, sym (c .before .ends-after2 .ensures) ∙ c .if3 .taken)
 
 returns-3 : tie.Need-returns-3
 returns-3 c =
@@ -64,9 +63,9 @@ returns-4 : tie.Need-returns-4
 returns-4 c =
     let a = c .before .before .before .before .before .before .before .before .args in
     let same = rest (a .bytes .now) (a .at) in
-    let short = sym (rw same at (c .before .before .before .before .digit-line .ensures)) ∙ c .before .before .before .if2 .left in
-    let long = sym (rw same at (c .before .before .digit-line2 .ensures)) ∙ c .before .if3 .left in
-    rw (c .no-frame2 .ensures, no-frame (drop (a .at) (a .bytes .now)) short long)
+    let short = sym (rw same at (c .before .before .before .before .ends-after .ensures)) ∙ c .before .before .before .if2 .left in
+    let long = sym (rw same at (c .before .before .ends-after2 .ensures)) ∙ c .before .if3 .left in
+    rw (c .no-frame2 .ensures, no-ends (drop (a .at) (a .bytes .now)) short long)
 
 pub read-frame-spec : {M : Type 1} → statement M
 read-frame-spec =
@@ -77,10 +76,10 @@ read-frame-spec =
     sub-s
     part-s-start
     part-s-end
-    digit-line-requires
+    ends-after-requires
     short-frame-requires
     returns-2
-    digit-line-requires-2
+    ends-after-requires-2
     long-frame-requires
     returns-3
     no-frame-requires-2

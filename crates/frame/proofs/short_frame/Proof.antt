@@ -1,40 +1,59 @@
--- `frame::short_frame` meets its contract: of the lines of 6 digits those of kind 1 are frames.
+-- `frame::short_frame` meets its contract: of the lines that end after 6 bytes those of kind 1 with a right field are frames.
 -- Assumes nothing.
-use mathlib.Core.Path.{_≡_}
-use mathlib.Core.Bool.{cond}
-use mathlib.Core.Option.{some, none}
 use native.Mathlib.Omega.{arith}
-use lib.Dec.{eqb}
 use borrow.Author.Tests.{ne-eqb}
 use borrow.Author.Needs.{needs}
-use Rattle.model.specs.Table.{layoutFrame, fieldAt, frameOf}
-use Rattle.frame.specs.Answer.{firstLine}
-use Rattle.frame.specs.Lines.{short-line}
-use Rattle.frame.proofs.Digits.{digits-within}
+use Rattle.frame.proofs.Frames.{ends-within, short-wrong, short-right}
 use Rattle.frame.proofs.short_frame.Statement.{statement}
 use Rattle.frame.proofs.short_frame.Tie as tie
 
--- the line's frame, by the kind that was read
-frame-of : (c : tie.After-number)
-    → let s = c .before .before .args .s .now in
-    frameOf (firstLine s) ≡ cond (eqb (c .number .result) 1) (some (layoutFrame (fieldAt 2 s))) none
-frame-of c = rw (c .number .ensures) (short-line (c .before .before .args .s .now) (c .before .before .pre))
-
-number-requires : tie.Need-number-requires
-number-requires c κs = digits-within 6 0 2 _ (c .before .pre) (omega arith) (omega arith)
-
-number-requires-2 : tie.Need-number-requires-2
-number-requires-2 c κs = digits-within 6 2 4 _ (c .before .before .before .pre) (omega arith) (omega arith)
-
-returns : tie.Need-returns
-returns c = rw (frame-of (c .before .before), c .before .if1 .taken, ← c .number2 .ensures)
+field-requires : tie.Need-field-requires
+field-requires c κs = omega (arith, ends-within 6 (c .before .args .s .now) (c .before .pre))
 
 no-frame-requires : tie.Need-no-frame-requires
 no-frame-requires c κs = search needs
 
+returns : tie.Need-returns
+returns c =
+    let start = c .before .before .before .before in
+    let f = c .before .before .field in
+    rw (c .no-frame .ensures, short-wrong (start .args .s .now) (start .pre) (f .result) (f .ensures) (c .before .if1 .taken))
+
+kind-of-requires : tie.Need-kind-of-requires
+kind-of-requires c κs =
+    let start = c .before .before .before in
+    omega (arith, ends-within 6 (start .args .s .now) (start .pre))
+
+cast-t6 : tie.Need-cast-t6
+cast-t6 c = search needs
+
 returns-2 : tie.Need-returns-2
-returns-2 c = rw (c .no-frame .ensures, frame-of (c .before .before), ne-eqb (c .before .before .number .result) 1 (c .before .if1 .left))
+returns-2 c =
+    let start = c .before .before .before .before .before in
+    let f = c .before .before .before .field in
+    let k = c .before .kind-of in
+    rw (short-right (start .args .s .now) (start .pre) (f .result) (f .ensures) (c .before .before .if1 .left) (k .result) (k .ensures), c .if2 .taken)
+
+no-frame-requires-2 : tie.Need-no-frame-requires-2
+no-frame-requires-2 c κs = search needs
+
+returns-3 : tie.Need-returns-3
+returns-3 c =
+    let start = c .before .before .before .before .before .before in
+    let f = c .before .before .before .before .field in
+    let k = c .before .before .kind-of in
+    let frame = short-right (start .args .s .now) (start .pre) (f .result) (f .ensures) (c .before .before .before .if1 .left) (k .result) (k .ensures) in
+    rw (c .no-frame2 .ensures, frame, ne-eqb (k .result) 1 (c .before .if2 .left))
 
 pub short-frame-spec : {M : Type 1} → statement M
 short-frame-spec =
-    tie.close (tie.spec number-requires number-requires-2 returns no-frame-requires returns-2)
+    tie.close
+    (tie.spec
+    field-requires
+    no-frame-requires
+    returns
+    kind-of-requires
+    cast-t6
+    returns-2
+    no-frame-requires-2
+    returns-3)

@@ -3,7 +3,7 @@
 use borrow.Author.Needs.{needs}
 use native.Mathlib.Omega.{arith}
 use Prim.Native.Nat.{_-_}
-use Rattle.planner.specs.Levels.{LevelsTo, levels-begin, levels-room, levels-step, levels-found}
+use Rattle.sweeping.specs.Levels.{LevelsTo, levels-begin, levels-room, levels-step, levels-found}
 use Rattle.planner.proofs.levels_of.Statement.{statement}
 use Rattle.planner.proofs.levels_of.Tie as tie
 use Rattle.planner.proofs.levels_of.Reads as reads

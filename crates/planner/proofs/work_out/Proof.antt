@@ -1,13 +1,13 @@
 use native.Mathlib.Omega.{arith}
 use borrow.Author.Needs.{needs}
 use mathlib.Core.Path.{sym, _∙_}
-use Rattle.planner.specs.Reaching.{mid-length}
-use Rattle.planner.specs.Filling.{shelf-room, start-filled, end-worked-out}
+use Rattle.sweeping.specs.Reaching.{mid-length}
+use Rattle.sweeping.specs.Filling.{shelf-room, start-filled, end-worked-out}
 use Rattle.planner.proofs.work_out.Statement.{statement}
 use Rattle.planner.proofs.work_out.Tie as tie
 use Rattle.planner.proofs.work_out.Reads as reads
 use Rattle.planner.proofs.work_out.Lts as lts
-use Rattle.planner.proofs.common.set_skips.Reads as set-skips-reads
+use Rattle.common.proofs.set_skips.Reads as set-skips-reads
 use Rattle.orders.proofs.fill.fill.Reads as fill-reads
 use Rattle.planner.proofs.levels_of.Reads as levels-of-reads
 use Rattle.orders.proofs.prepare.prepare.Reads as prepare-reads

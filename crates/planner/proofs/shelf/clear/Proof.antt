@@ -3,7 +3,7 @@
 use borrow.Author.Needs.{needs}
 use native.Mathlib.Omega.{arith}
 use Prim.Native.Nat.{_-_}
-use Rattle.planner.proofs.ShelfCells.{doubled, levels-fit, ClearedTo, cleared-same, cleared-step, cleared-all}
+use Rattle.sweeping.specs.ShelfCells.{doubled, levels-fit, ClearedTo, cleared-same, cleared-step, cleared-all}
 use Rattle.planner.proofs.shelf.clear.Statement.{statement}
 use Rattle.planner.proofs.shelf.clear.Tie as tie
 

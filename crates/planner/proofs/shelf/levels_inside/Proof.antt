@@ -2,7 +2,7 @@
 -- Assumes nothing.
 use native.Mathlib.Omega.{arith}
 use lib.Count.{trailing-le}
-use Rattle.planner.specs.VisitCount.{levelsInside}
+use Rattle.sweeping.specs.VisitCount.{levelsInside}
 use Rattle.planner.proofs.shelf.levels_inside.Statement.{statement}
 use Rattle.planner.proofs.shelf.levels_inside.Tie as tie
 

@@ -5,11 +5,11 @@ use borrow.Author.Needs.{needs}
 use native.Mathlib.Omega.{arith}
 use mathlib.Core.Path.{refl, sym, ap}
 use Prim.Native.Nat.{_+_}
-use Rattle.planner.specs.ShelfLaws.{smallest-empty}
-use Rattle.planner.specs.VisitBound.{visits-empty}
-use Rattle.planner.proofs.ShelfCells.{levels-fit}
-use Rattle.planner.proofs.ShelfVisits.{inside-small, VisitsMet}
-use Rattle.planner.proofs.ShelfLookup.{Climbing, climbing-slots, climbing-parents, climbing-place, climbing-visits}
+use Rattle.sweeping.specs.ShelfLaws.{smallest-empty}
+use Rattle.sweeping.specs.VisitBound.{visits-empty}
+use Rattle.sweeping.specs.ShelfCells.{levels-fit}
+use Rattle.sweeping.specs.ShelfVisits.{inside-small, VisitsMet}
+use Rattle.sweeping.specs.ShelfLookup.{Climbing, climbing-slots, climbing-parents, climbing-place, climbing-visits}
 use Rattle.planner.proofs.shelf.lookup.Statement.{statement}
 use Rattle.planner.proofs.shelf.lookup.Tie as tie
 

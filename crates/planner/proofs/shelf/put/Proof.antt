@@ -5,7 +5,7 @@ use native.Mathlib.Omega.{arith}
 use mathlib.Core.Path.{ap, _∙_}
 use lib.ListN.{length-set}
 use Prim.Native.Nat.{_+_}
-use Rattle.planner.proofs.ShelfCells.{levels-fit, Rising, rising-start, rising-step, rising-top, rising-done}
+use Rattle.sweeping.specs.ShelfCells.{levels-fit, Rising, rising-start, rising-step, rising-top, rising-done}
 use Rattle.planner.proofs.shelf.put.Statement.{statement}
 use Rattle.planner.proofs.shelf.put.Tie as tie
 

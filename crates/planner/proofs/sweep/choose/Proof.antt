@@ -5,9 +5,9 @@ use mathlib.Core.Path.{_∙_}
 use lib.ListN.{length}
 use borrow.Rule.Slice.PartMut.{putMid}
 use Rattle.model.specs.Jobs.{tableOf}
-use Rattle.planner.specs.Steps.{Reaching}
-use Rattle.planner.specs.Reaching.{mid-tail, mid-length}
-use Rattle.planner.specs.Choosing.{own-inside, taken-off, to-inside, chosen}
+use Rattle.sweeping.specs.Steps.{Reaching}
+use Rattle.sweeping.specs.Reaching.{mid-tail, mid-length}
+use Rattle.sweeping.specs.Choosing.{own-inside, taken-off, to-inside, chosen}
 use Rattle.planner.proofs.sweep.choose.Statement.{statement}
 use Rattle.planner.proofs.sweep.choose.Tie as tie
 use Rattle.planner.proofs.sweep.choose.Reads as reads

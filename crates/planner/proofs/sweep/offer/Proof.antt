@@ -1,6 +1,6 @@
 use native.Mathlib.Omega.{arith}
 use borrow.Author.Needs.{needs}
-use Rattle.planner.specs.Sweeping.{offered-alone, offered-joining, offered-pair}
+use Rattle.sweeping.specs.Sweeping.{offered-alone, offered-joining, offered-pair}
 use Rattle.planner.proofs.sweep.offer.Statement.{statement}
 use Rattle.planner.proofs.sweep.offer.Tie as tie
 use Rattle.planner.proofs.sweep.offer.Reads as reads

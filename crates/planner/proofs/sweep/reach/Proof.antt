@@ -4,7 +4,7 @@ use Prim.Native.Nat.{_-_}
 use mathlib.Core.Path.{_∙_, sym}
 use lib.ListN.{length}
 use Rattle.model.specs.Jobs.{tableOf}
-use Rattle.planner.specs.Reaching.{ReachingDeep, reached-all, reached-some, reached-further}
+use Rattle.sweeping.specs.Reaching.{ReachingDeep, reached-all, reached-some, reached-further}
 use Rattle.planner.proofs.sweep.reach.Statement.{statement}
 use Rattle.planner.proofs.sweep.reach.Tie as tie
 use Rattle.planner.proofs.sweep.reach.Reads as reads

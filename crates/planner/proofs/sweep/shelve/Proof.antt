@@ -1,7 +1,7 @@
 use native.Mathlib.Omega.{arith}
 use borrow.Author.Needs.{needs}
 use mathlib.Core.Path.{_∙_}
-use Rattle.planner.specs.Reaching.{passed-behind, passed-paired, passed-solo, slot-inside, put-reached, mid-tail, mid-length}
+use Rattle.sweeping.specs.Reaching.{passed-behind, passed-paired, passed-solo, slot-inside, put-reached, mid-tail, mid-length}
 use Rattle.planner.proofs.sweep.shelve.Statement.{statement}
 use Rattle.planner.proofs.sweep.shelve.Tie as tie
 use Rattle.planner.proofs.sweep.shelve.Reads as reads

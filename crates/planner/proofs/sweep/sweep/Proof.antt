@@ -4,7 +4,7 @@ use Prim.Native.Nat.{_-_, _≤_}
 use mathlib.Core.Path.{_≡_, refl, sym, _∙_}
 use lib.ListN.{length}
 use Rattle.model.specs.Jobs.{tableOf}
-use Rattle.planner.specs.Steps.{Sweeping}
+use Rattle.sweeping.specs.Steps.{Sweeping}
 use Rattle.planner.proofs.sweep.sweep.Statement.{statement}
 use Rattle.planner.proofs.sweep.sweep.Tie as tie
 use Rattle.planner.proofs.sweep.sweep.Reads as reads

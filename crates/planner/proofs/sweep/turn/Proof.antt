@@ -1,6 +1,6 @@
 use native.Mathlib.Omega.{arith}
 use borrow.Author.Needs.{needs}
-use Rattle.planner.specs.Sweeping.{turn-deep, turned-paired, turned-solo, turned-offering}
+use Rattle.sweeping.specs.Sweeping.{turn-deep, turned-paired, turned-solo, turned-offering}
 use Rattle.planner.proofs.sweep.turn.Statement.{statement}
 use Rattle.planner.proofs.sweep.turn.Tie as tie
 use Rattle.planner.proofs.sweep.turn.Reads as reads

@@ -1,0 +1,20 @@
+-- What the steps of the sweep promise one another, and the laws from there to the definitions of document 01.
+pub mod Shelf
+pub mod ShelfCells
+pub mod ShelfLaws
+pub mod ShelfSpans
+pub mod VisitBound
+pub mod VisitCount
+pub mod ShelfVisits
+pub mod ShelfLookup
+pub mod Levels
+pub mod Sweep
+pub mod Choice
+pub mod Turn
+pub mod Shelving
+pub mod Steps
+pub mod Reaching
+pub mod Choosing
+pub mod Joining
+pub mod Sweeping
+pub mod Filling
