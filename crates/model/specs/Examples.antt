@@ -1,9 +1,8 @@
 -- Document 01's worked tables ("Tables to try", those marked ◆): one table of examples, and one fact about it.
 -- Assumes nothing.
-use Prim.Native.Nat.{ℕ, zero, suc, _+_, _*_, _^_}
+use Prim.Native.Nat.{ℕ}
 use mathlib.Core.Path.{_≡_, refl}
-use mathlib.Core.Bool.{Bool, true, false, cond}
-use mathlib.Core.List.{List, [], _∷_, _++_, map, flatMap, headD}
+use mathlib.Core.List.{List, [], _∷_, map, flatMap, headD}
 use lib.ListN.{length}
 use Rattle.model.specs.Lists.{numbersFrom, numbers, elem, indexOf, lastD, any, all, select, count, find, total, insertBy, sortBy}
 use Rattle.model.specs.Verdict.{Verdict, accepted, refused}
@@ -13,8 +12,6 @@ use Rattle.model.specs.Order.{earlier, runningOrder, place, leftward, sl
 use Rattle.model.specs.Greedy.{Pass, pair, single, without, turn, turns, greedy, compatible, passes}
 use Rattle.model.specs.Visits.{levelsFrom, levels, cellVisits, visits, askedFrom, askedTo, lookupVisits, passVisits, cellCount}
 use Rattle.model.specs.Planning.{workCells, lentVerdict, jobsVerdict, planVerdict, partnerIn, pairCount, singleCount, partners, printed, layouts, pairs, singles}
-use Rattle.model.specs.Table.{Reading, read, stopped, isDigit, digitValue, numberAfter, lead, lines, frameOfKind, frameOf, isEnd, outOfOrder, contentVerdict, frameVerdict, extended, unlessRefused, readFrame, readLines, readTable}
-use Rattle.model.specs.Output.{digit, hex, line, passLine, totalsLine, planBytes, refusalBytes, readingBytes, runBytes}
 
 -- a plan's passes, `I J L` or `I`, its partners and layouts by job, and its totals; or a refusal's number and place
 data Outcome : Type 0 where
@@ -99,3 +96,8 @@ examples =
 examples-hold : map planned examples ≡ map (λ (e : Example). e .expected) examples
 unfolding numbersFrom numbers elem indexOf lastD any all select count find total insertBy sortBy rightParent layoutsFrom treeVerdict climb chain above depth children orSelf leavesWithin leaves firstLeaf lastLeaf solo upTo pathFrom path shares deepestShared topDepth bottomLeaf jobVerdict earlier runningOrder place leftward slotOrder slot without turn turns greedy compatible passes levelsFrom levels cellVisits visits askedFrom askedTo lookupVisits passVisits cellCount lentVerdict jobsVerdict planVerdict partnerIn pairCount singleCount partners printed layouts pairs singles passNumbers outcome _-_ _solo_ tableOf planned F bakehouse examples flatMap headD
 examples-hold = refl
+
+-- the running order of the bakehouse, and the cells that the lookups of jobs 4, 2 and 0 visit
+bakehouse-sweep : (runningOrder (tableOf bakehouse) ≡ 4 ∷ 1 ∷ 2 ∷ 0 ∷ 3 ∷ []) × (map (lookupVisits (tableOf bakehouse)) (4 ∷ 2 ∷ 0 ∷ []) ≡ 7 ∷ 11 ∷ 7 ∷ [])
+unfolding numbersFrom numbers elem indexOf lastD select count insertBy sortBy climb chain depth children orSelf leavesWithin leaves firstLeaf lastLeaf solo topDepth bottomLeaf earlier runningOrder place leftward slotOrder slot levelsFrom levels cellVisits visits askedFrom askedTo lookupVisits _-_ tableOf F bakehouse flatMap headD
+bakehouse-sweep = (refl, refl)
