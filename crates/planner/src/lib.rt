@@ -71,8 +71,8 @@ pub fn work_out(
     );
     let levels = levels_of(tops.len());
     shelf::clear(&mut work[sweep::SHELF..], levels);
-    orders::fill::fill(partners, model::ABSENT);
-    orders::fill::fill(layouts, model::ABSENT);
+    cells::fill(partners, model::ABSENT);
+    cells::fill(layouts, model::ABSENT);
     let tally = sweep::sweep(
         parents,
         tops,
@@ -123,7 +123,7 @@ fn fill_in(
         layouts,
         work,
     );
-    orders::fill::fill(work, 0);
+    cells::fill(work, 0);
     totals
 }
 

@@ -1,11 +1,11 @@
 // The sweep over the running order (000, Algorithm 2): each job still free at its turn takes the smallest place on the shelf in the span of
 // its top.
 use crate::shelf;
+use cells::cell;
+use cells::index;
+use cells::mark;
 use model::LayoutNumber;
 use model::Rank;
-use orders::cells::cell;
-use orders::cells::index;
-use orders::cells::mark;
 ghost use mathlib.Core.Path.{_≡_};
 ghost use Prim.Native.Nat.{ℕ, _+_, _<_, _≤_};
 ghost use lib.ListN.{length, getD, set};

@@ -1,19 +1,13 @@
 -- Laws of buffers whose first cells are used and whose other cells hold one number. Assumes nothing.
-use Prim.Native.Nat.{ℕ, zero, suc, _+_, _-_, _≤_, _<_}
+use Prim.Native.Nat.{ℕ, zero, suc, _+_, _-_, _<_}
 use mathlib.Core.Path.{_≡_, refl, ap, _∙_}
-use mathlib.Core.List.{List, [], _∷_, _++_, append-nil}
+use mathlib.Core.List.{List, [], _∷_, _++_}
 use native.Mathlib.Nat.{sub-zero}
 use native.Mathlib.Numerals.{add-one}
 use native.Mathlib.Omega.{arith}
-use lib.ListN.{length, take, drop, set, replicate, length-set, length-replicate, drop-of-length-le}
+use lib.ListN.{length, take, drop, set, replicate, length-set, length-replicate}
 use lib.Seq.{drop-set-lt, take-suc-set, drop-drop}
 use Rattle.table.specs.Steps.{Unused}
-
--- every cell is filled
-pub filled : (i v : ℕ) (d : List ℕ) → length d ≤ i → i ≤ length d → replicate i v ++ drop i d ≡ replicate (length d) v
-filled i v d h l =
-    let e : i ≡ length d = omega arith in
-    rw (drop-of-length-le d h, append-nil (replicate i v), e)
 
 -- a buffer that was filled has no used cell
 pub filled-unused : (v : ℕ) (cells old : List ℕ) → cells ≡ replicate (length old) v → Unused v 0 cells

@@ -3,7 +3,7 @@ ghost use mathlib.Core.Path.{_≡_};
 ghost use mathlib.Core.List.{List};
 ghost use mathlib.Core.Bool.{true, false, not};
 ghost use Prim.Native.Nat.{ℕ, _+_, _≤_, _<_};
-ghost use lib.ListN.{length, replicate, take};
+ghost use lib.ListN.{length, replicate};
 ghost use Rattle.model.specs.Tree.{FFFF, layoutLimit, rightParent};
 ghost use Rattle.model.specs.Jobs.{Table, jobs as jobCount, jobLimit};
 ghost use Rattle.model.specs.Table.{layoutFrame, endFrame, readTable, buffersVerdict};
@@ -42,36 +42,14 @@ enum Step {
     Refused(Refusal),
 }
 
-// Fills every cell with FFFF.
-fn fill_numbers(cells: &mut [u16])
-    ensures { λ r. ⌜ now (cells .exit) ≡ replicate (length (now (cells .entry))) FFFF ⌝ }
-{
-    let mut i = 0;
-    while i < cells.len() {
-        cells[i] = model::ABSENT;
-        i += 1;
-    }
-}
-
-// Fills every mark with 0.
-fn fill_marks(cells: &mut [u8])
-    ensures { λ r. ⌜ now (cells .exit) ≡ replicate (length (now (cells .entry))) 0 ⌝ }
-{
-    let mut i = 0;
-    while i < cells.len() {
-        cells[i] = 0;
-        i += 1;
-    }
-}
-
 // As buffers are where nothing is used.
 fn clear(parents: &mut [u16], tops: &mut [u16], bottoms: &mut [u16], marks: &mut [u8])
     ensures { λ r. ⌜ Cleared (now (parents .exit)) (now (tops .exit)) (now (bottoms .exit)) (now (marks .exit)) ⌝ }
 {
-    fill_numbers(parents);
-    fill_numbers(tops);
-    fill_numbers(bottoms);
-    fill_marks(marks);
+    cells::fill(parents, model::ABSENT);
+    cells::fill(tops, model::ABSENT);
+    cells::fill(bottoms, model::ABSENT);
+    cells::clear_marks(marks);
 }
 
 // Whether p can be the parent of layout x: FFFF for layout 0, else a smaller number.

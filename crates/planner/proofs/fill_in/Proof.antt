@@ -7,7 +7,7 @@ use Rattle.planner.proofs.fill_in.Statement.{statement}
 use Rattle.planner.proofs.fill_in.Tie as tie
 use Rattle.planner.proofs.fill_in.Reads as reads
 use Rattle.planner.proofs.fill_in.Lts as lts
-use Rattle.orders.proofs.fill.fill.Reads as fill-reads
+use Rattle.cells.proofs.fill.Reads as fill-reads
 use Rattle.planner.proofs.work_out.Reads as work-out-reads
 
 -- src/lib.rt:115:9

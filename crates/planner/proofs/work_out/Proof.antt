@@ -8,7 +8,7 @@ use Rattle.planner.proofs.work_out.Tie as tie
 use Rattle.planner.proofs.work_out.Reads as reads
 use Rattle.planner.proofs.work_out.Lts as lts
 use Rattle.common.proofs.set_skips.Reads as set-skips-reads
-use Rattle.orders.proofs.fill.fill.Reads as fill-reads
+use Rattle.cells.proofs.fill.Reads as fill-reads
 use Rattle.planner.proofs.levels_of.Reads as levels-of-reads
 use Rattle.orders.proofs.prepare.prepare.Reads as prepare-reads
 use Rattle.planner.proofs.shelf.clear.Reads as clear-reads

@@ -5,17 +5,17 @@ use Rattle.table.proofs.Cells.{filled-unused}
 use Rattle.table.proofs.clear.Statement.{statement}
 use Rattle.table.proofs.clear.Tie as tie
 
-fill-numbers-requires : tie.Need-fill-numbers-requires
-fill-numbers-requires c κs = search needs
+fill-requires : tie.Need-fill-requires
+fill-requires c κs = search needs
 
-fill-numbers-requires-2 : tie.Need-fill-numbers-requires-2
-fill-numbers-requires-2 c κs = search needs
+fill-requires-2 : tie.Need-fill-requires-2
+fill-requires-2 c κs = search needs
 
-fill-numbers-requires-3 : tie.Need-fill-numbers-requires-3
-fill-numbers-requires-3 c κs = search needs
+fill-requires-3 : tie.Need-fill-requires-3
+fill-requires-3 c κs = search needs
 
-fill-marks-requires : tie.Need-fill-marks-requires
-fill-marks-requires c κs = search needs
+clear-marks-requires : tie.Need-clear-marks-requires
+clear-marks-requires c κs = search needs
 
 same-length : tie.Need-same-length
 same-length c = search needs
@@ -33,20 +33,20 @@ returns : tie.Need-returns
 returns c =
     let a = c .before .before .before .before .before .before .before .before .before .before .before .before .before .before .before .before .before .before .before .before .args in
     record {
-      parents-clear = filled-unused 65535 _ (a .parents .now) (c .before .before .before .before .before .before .before .before .before .before .before .before .before .before .fill-numbers .ensures);
-      tops-clear = filled-unused 65535 _ (a .tops .now) (c .before .before .before .before .before .before .before .before .before .before .fill-numbers2 .ensures);
-      bottoms-clear = filled-unused 65535 _ (a .bottoms .now) (c .before .before .before .before .before .before .fill-numbers3 .ensures);
-      marks-clear = filled-unused 0 _ (a .marks .now) (c .before .before .fill-marks .ensures);
+      parents-clear = filled-unused 65535 _ (a .parents .now) (c .before .before .before .before .before .before .before .before .before .before .before .before .before .before .fill .ensures);
+      tops-clear = filled-unused 65535 _ (a .tops .now) (c .before .before .before .before .before .before .before .before .before .before .fill2 .ensures);
+      bottoms-clear = filled-unused 65535 _ (a .bottoms .now) (c .before .before .before .before .before .before .fill3 .ensures);
+      marks-clear = filled-unused 0 _ (a .marks .now) (c .before .before .clear-marks .ensures);
     }
 
 pub clear-spec : {M : Type 1} → statement M
 clear-spec =
     tie.close
     (tie.spec
-    fill-numbers-requires
-    fill-numbers-requires-2
-    fill-numbers-requires-3
-    fill-marks-requires
+    fill-requires
+    fill-requires-2
+    fill-requires-3
+    clear-marks-requires
     same-length
     same-length-2
     same-length-3

@@ -12,7 +12,8 @@ settled : (c : tie.After-settle-layouts)
     LayoutsSettled (c .before .before .before .before .before .before .before .before .before .before .before .before .args .parents .now) (l .1 .0) (l .1 .1 .0) (l .1 .1 .1 .0)
 settled c =
     let pre = c .before .before .before .before .before .before .before .before .before .before .before .before .pre in
-    layouts-settled (c .before .before .before .before .before .before .before .before .before .before .before .before .args .parents .now) _ _ _ _ _ _ _ (pre .0 .few) (pre .0 .right) (pre .1) (c .settle-layouts .ensures)
+    layouts-settled (c .before .before .before .before .before .before .before .before .before .before .before .before .args .parents .now) _ _ _ _ _ _ _ (pre .0 .few) (pre .0 .right)
+    (record { depths-room = search needs; firsts-room = search needs; lasts-room = search needs }) (c .settle-layouts .ensures)
 
 settle-layouts-requires : tie.Need-settle-layouts-requires
 settle-layouts-requires c κs = search needs

@@ -87,7 +87,7 @@ next-step-requires c κs =
     (pre .few, c .loop .inv .3 .few)
 
 enum-known-step : tie.Need-enum-known-step Inv-loop μ-loop
-enum-known-step c = (search needs)
+enum-known-step c = search needs
 
 mul-tops : tie.Need-mul-tops Inv-loop μ-loop
 mul-tops c = let few = c .before .before .before .before .loop .inv .3 .few in omega arith
@@ -125,7 +125,7 @@ loop-again c =
     )
 
 enum-told : tie.Need-enum-told Inv-loop μ-loop
-enum-told c = (search needs)
+enum-told c = search needs
 
 add-finish : tie.Need-add-finish Inv-loop μ-loop
 add-finish c = let last = end c in omega (arith, c .before .before .before .before .before .before .before .before .before .before .before .before .good)
@@ -156,7 +156,7 @@ returns c =
     (c .finish .ensures tb refl (length-take-le (l .jobs) (l .tops) long)) (l .inv .3 .unused)
 
 enum-known-step-2 : tie.Need-enum-known-step-2 Inv-loop μ-loop
-enum-known-step-2 c = (search needs)
+enum-known-step-2 c = search needs
 
 same-length-4 : tie.Need-same-length-4 Inv-loop μ-loop
 same-length-4 c = c .before .before .before .before .loop .inv .0

@@ -12,7 +12,7 @@ use Rattle.planner.proofs.sweep.choose.Statement.{statement}
 use Rattle.planner.proofs.sweep.choose.Tie as tie
 use Rattle.planner.proofs.sweep.choose.Reads as reads
 use Rattle.planner.proofs.sweep.choose.Lts as lts
-use Rattle.orders.proofs.cells.index.Reads as index-reads
+use Rattle.cells.proofs.index.Reads as index-reads
 use Rattle.planner.proofs.shelf.lookup.Reads as lookup-reads
 use Rattle.planner.proofs.shelf.put.Reads as put-reads
 use Rattle.planner.proofs.sweep.start_of.Reads as start-of-reads

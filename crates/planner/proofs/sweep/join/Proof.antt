@@ -7,8 +7,8 @@ use Rattle.planner.proofs.sweep.join.Statement.{statement}
 use Rattle.planner.proofs.sweep.join.Tie as tie
 use Rattle.planner.proofs.sweep.join.Reads as reads
 use Rattle.planner.proofs.sweep.join.Lts as lts
-use Rattle.orders.proofs.cells.cell.Reads as cell-reads
-use Rattle.orders.proofs.cells.index.Reads as index-reads
+use Rattle.cells.proofs.cell.Reads as cell-reads
+use Rattle.cells.proofs.index.Reads as index-reads
 use Rattle.common.proofs.deepest_common.Reads as deepest-common-reads
 use Rattle.planner.proofs.shelf.put.Reads as put-reads
 use Rattle.planner.proofs.sweep.set_both.Reads as set-both-reads

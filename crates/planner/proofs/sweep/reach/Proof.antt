@@ -9,8 +9,8 @@ use Rattle.planner.proofs.sweep.reach.Statement.{statement}
 use Rattle.planner.proofs.sweep.reach.Tie as tie
 use Rattle.planner.proofs.sweep.reach.Reads as reads
 use Rattle.planner.proofs.sweep.reach.Lts as lts
-use Rattle.orders.proofs.cells.cell.Reads as cell-reads
-use Rattle.orders.proofs.cells.index.Reads as index-reads
+use Rattle.cells.proofs.cell.Reads as cell-reads
+use Rattle.cells.proofs.index.Reads as index-reads
 use Rattle.planner.proofs.sweep.shelve.Reads as shelve-reads
 
 abbrev Inv-loop : tie.InvT-loop

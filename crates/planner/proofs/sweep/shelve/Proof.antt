@@ -6,9 +6,9 @@ use Rattle.planner.proofs.sweep.shelve.Statement.{statement}
 use Rattle.planner.proofs.sweep.shelve.Tie as tie
 use Rattle.planner.proofs.sweep.shelve.Reads as reads
 use Rattle.planner.proofs.sweep.shelve.Lts as lts
-use Rattle.orders.proofs.cells.cell.Reads as cell-reads
-use Rattle.orders.proofs.cells.index.Reads as index-reads
-use Rattle.orders.proofs.cells.mark.Reads as mark-reads
+use Rattle.cells.proofs.cell.Reads as cell-reads
+use Rattle.cells.proofs.index.Reads as index-reads
+use Rattle.cells.proofs.mark.Reads as mark-reads
 use Rattle.planner.proofs.shelf.put.Reads as put-reads
 
 -- src/sweep.rt:39:25

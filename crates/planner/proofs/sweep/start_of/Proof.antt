@@ -8,7 +8,7 @@ use Rattle.planner.proofs.sweep.start_of.Statement.{statement}
 use Rattle.planner.proofs.sweep.start_of.Tie as tie
 use Rattle.planner.proofs.sweep.start_of.Reads as reads
 use Rattle.planner.proofs.sweep.start_of.Lts as lts
-use Rattle.orders.proofs.cells.index.Reads as index-reads
+use Rattle.cells.proofs.index.Reads as index-reads
 
 -- src/sweep.rt:92:9
 returns : tie.Need-returns

@@ -5,9 +5,9 @@ use Rattle.planner.proofs.sweep.turn.Statement.{statement}
 use Rattle.planner.proofs.sweep.turn.Tie as tie
 use Rattle.planner.proofs.sweep.turn.Reads as reads
 use Rattle.planner.proofs.sweep.turn.Lts as lts
-use Rattle.orders.proofs.cells.cell.Reads as cell-reads
-use Rattle.orders.proofs.cells.index.Reads as index-reads
-use Rattle.orders.proofs.cells.mark.Reads as mark-reads
+use Rattle.cells.proofs.cell.Reads as cell-reads
+use Rattle.cells.proofs.index.Reads as index-reads
+use Rattle.cells.proofs.mark.Reads as mark-reads
 use Rattle.planner.proofs.sweep.offer.Reads as offer-reads
 use Rattle.planner.proofs.sweep.reach.Reads as reach-reads
 

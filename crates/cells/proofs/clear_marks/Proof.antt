@@ -1,0 +1,49 @@
+-- `cells::clear_marks` meets its contract: the cells passed hold the value, the others are as they were.
+-- Assumes nothing.
+use borrow.Author.Needs.{needs}
+use Prim.Native.Nat.{_-_}
+use lib.ListN.{length}
+use Rattle.cells.proofs.Filled.{FilledTo, filled-none, filled-more, filled-all}
+use Rattle.cells.proofs.clear_marks.Statement.{statement}
+use Rattle.cells.proofs.clear_marks.Tie as tie
+
+abbrev Inv-loop : tie.InvT-loop
+Inv-loop marks₀ i₀ marks i = FilledTo 0 marks₀ i marks
+
+abbrev μ-loop : tie.MeasureT-loop
+μ-loop marks₀ i₀ marks i = length marks₀ - i
+
+loop-holds : tie.Need-loop-holds Inv-loop μ-loop
+loop-holds c = filled-none _ _
+
+slice-write-marks : tie.Need-slice-write-marks Inv-loop μ-loop
+slice-write-marks c = search needs
+
+add-i : tie.Need-add-i Inv-loop μ-loop
+add-i c = search needs
+
+loop-less : tie.Need-loop-less Inv-loop μ-loop
+loop-less c = search needs
+
+loop-again : tie.Need-loop-again Inv-loop μ-loop
+loop-again c = filled-more _ _ _ _ (c .loop-test .taken) (c .before .loop .inv)
+
+same-length : tie.Need-same-length Inv-loop μ-loop
+same-length c = search needs
+
+returns : tie.Need-returns Inv-loop μ-loop
+returns c = filled-all _ _ _ _ (c .loop-test .left) (c .before .loop .inv)
+
+pub clear-marks-spec : {M : Type 1} → statement M
+clear-marks-spec =
+    tie.close
+    (tie.spec
+    Inv-loop
+    μ-loop
+    loop-holds
+    slice-write-marks
+    add-i
+    loop-less
+    loop-again
+    same-length
+    returns)
