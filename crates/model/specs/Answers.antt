@@ -1,14 +1,11 @@
 -- Document 01's number and values for each case of an enum that an operation answers.
 -- Assumes nothing.
-use Prim.Native.Nat.{ℕ}
-use mathlib.Core.List.{List, [], _∷_}
+use mathlib.Core.List.{[], _∷_}
 use Rattle.model.specs.Verdict.{Answer, gives, refuses}
 use Rattle.model.specs.Table as Table
 use Rattle.model.specs.Table.{layoutFrame, jobFrame, soloFrame, endFrame}
 use Rattle.model.specs.declared.Frame.{Frame}
 use Rattle.model.specs.declared.Frame.the-variants.{Layout, Job, Solo, End}
-use Rattle.model.specs.declared.FrameRead.{FrameRead}
-use Rattle.model.specs.declared.FrameRead.the-variants as frame-read
 use Rattle.model.specs.declared.Settled.{Settled}
 use Rattle.model.specs.declared.Settled.the-variants as settled
 use Rattle.model.specs.declared.TableRead.{TableRead}

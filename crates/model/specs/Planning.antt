@@ -1,9 +1,9 @@
 -- What *Plan* turns away and what it gives back (document 01, "What each operation turns away").
 -- Assumes nothing.
-use Prim.Native.Nat.{ℕ, _+_, _-_}
-use mathlib.Core.Bool.{Bool, cond, not, _||_}
+use Prim.Native.Nat.{ℕ, _-_}
+use mathlib.Core.Bool.{cond, not, _||_}
 use mathlib.Core.List.{List, [], _∷_, map, foldr}
-use lib.ListN.{length, getD}
+use lib.ListN.{length}
 use lib.Dec.{eqb, ltb}
 use Rattle.model.specs.Lists.{numbers, total}
 use Rattle.model.specs.Verdict.{Verdict, accepted, refuseIf, _then_}

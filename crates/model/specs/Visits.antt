@@ -1,8 +1,7 @@
 -- The visits of a lookup (document 01, "The shelf and its cells"). The shelf is a segment tree, a cell one of its nodes.
 -- Assumes nothing.
 use Prim.Native.Nat.{ℕ, zero, suc, _+_, _^_}
-use mathlib.Core.Bool.{Bool, cond, not, _||_, _&&_}
-use mathlib.Core.List.{List}
+use mathlib.Core.Bool.{Bool, cond, _||_, _&&_}
 use lib.Dec.{leb, ltb}
 use Rattle.model.specs.Lists.{numbers, count, total}
 use Rattle.model.specs.Tree.{firstLeaf, lastLeaf}

@@ -1,17 +1,14 @@
 -- The outcome of *Plan*: refused with nothing changed, or the plan in the results, which no rival beats.
 -- Assumes nothing.
-use Prim.Native.Nat.{ℕ, _<_, _≤_}
+use Prim.Native.Nat.{ℕ, _≤_}
 use mathlib.Core.Path.{_≡_, refl, sym, ap, _∙_}
-use mathlib.Core.List.{List, [], _∷_, _++_}
+use mathlib.Core.List.{List, _++_}
 use native.Mathlib.Omega.{arith}
-use lib.ListN.{length, take, drop, replicate}
+use lib.ListN.{length, take, drop}
 use lib.Seq.{length-take-le}
-use Rattle.model.specs.Verdict.{Verdict, accepted, refused, Answer, gives, refuses, answer}
-use Rattle.model.specs.Tree.{layoutLimit}
-use Rattle.model.specs.Jobs.{Table, tableOf, jobs, jobLimit}
-use Rattle.model.specs.Planning as Planning
-use Rattle.model.specs.Planning.{workCells, jobsVerdict}
-use Rattle.model.specs.Rival.{Foremost}
+use Rattle.model.specs.Verdict.{Verdict, accepted, refused, refuses}
+use Rattle.model.specs.Jobs.{Table, tableOf}
+use Rattle.model.specs.Planning.{jobsVerdict}
 use Rattle.model.specs.Answers.{plannedAnswer}
 use Rattle.model.specs.Outcomes.{PlannedAs}
 use Rattle.model.specs.declared.Planned.{Planned}

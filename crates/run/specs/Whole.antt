@@ -9,7 +9,7 @@ use lib.Seq.{length-take-le, length-front}
 use borrow.Author.Tests.{lt-ltb, le-ltb}
 use Rattle.model.specs.Lists.{numbers}
 use Rattle.model.specs.Tree.{FFFF}
-use Rattle.model.specs.Jobs.{Table, tableOf, jobs, jobLimit}
+use Rattle.model.specs.Jobs.{Table, jobs, jobLimit}
 use Rattle.model.specs.Greedy.{passes}
 use Rattle.model.specs.Visits.{cellCount}
 use Rattle.model.specs.Planning as Planning

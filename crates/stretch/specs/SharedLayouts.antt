@@ -1,7 +1,6 @@
 -- For two jobs' paths written from top to bottom the shared stretch holds exactly the shared layouts (document 01, "Shared stretch").
 -- Assumes nothing.
-use Prim.Native.Nat.{ℕ, zero, suc, pred, _+_, _<_}
-use native.Mathlib.Nat.{add-zero}
+use Prim.Native.Nat.{ℕ, suc, pred, _+_, _<_}
 use native.Mathlib.Omega.{arith}
 use native.Mathlib.Decide.{decLt}
 use mathlib.Core.Path.{_≡_, refl, sym, ap, _∙_, subst}
@@ -14,7 +13,7 @@ use Rattle.model.specs.Lists.{elem}
 use Rattle.model.specs.Jobs.{Table, path, pathFrom, top, bottom}
 use Rattle.model.specs.Stretch.{stretchOf, numbersOf}
 use Rattle.tree.specs.WellFormed.{Tree}
-use Rattle.tree.specs.Lists.{answers, elem-mem, mem-elem, getD-mem, same-test}
+use Rattle.tree.specs.Lists.{elem-mem, mem-elem, getD-mem, same-test}
 use Rattle.tree.specs.Chain.{Above, self, up}
 use Rattle.tree.specs.Sharing.{Downward, path-one, path-up}
 use Rattle.stretch.specs.StretchPaths.{Stands, Descending, shared-in-stretch, stretch-in-both}

@@ -1,21 +1,20 @@
 -- The lookup's answer is the greedy rule's choice (000, Algorithm 2 equals Algorithm 1): the smallest place on the shelf in the span of the
 -- job's top is that of the first free later job that is compatible with it.
 -- Assumes nothing.
-use Prim.Native.Nat.{ℕ, zero, suc, _+_, _-_, _<_, _≤_, _^_}
+use Prim.Native.Nat.{ℕ, suc, _+_, _-_, _<_, _≤_, _^_}
 use mathlib.Core.Path.{_≡_, refl, sym, ap, _∙_}
-use mathlib.Core.Logic.{_⊎_, ⊎-elim, _≢_}
-use mathlib.Core.Bool.{Bool, true, false, cond, not, _&&_}
-use mathlib.Core.Option.{Option, none, some}
-use mathlib.Core.List.{List, [], _∷_, List·Memᴰ as Mem}
+use mathlib.Core.Logic.{_⊎_, ⊎-elim}
+use mathlib.Core.Bool.{Bool, true, false, not, _&&_}
+use mathlib.Core.Option.{none, some}
+use mathlib.Core.List.{List, List·Memᴰ as Mem}
 use native.Mathlib.Omega.{arith}
-use native.Mathlib.Decide.{decLt}
-use lib.ListN.{length, getD, take, drop, length-drop, take-append-drop}
+use lib.ListN.{getD, take, drop, length-drop, take-append-drop}
 use lib.Seq.{getD-drop}
-use lib.Dec.{eqb, ltb, leb}
+use lib.Dec.{ltb, leb}
 use borrow.Author.Tests.{lt-ltb, le-leb, leb-true, ltb-true}
 use Rattle.model.specs.Lists.{elem, find, Pairwise}
-use Rattle.model.specs.Tree.{FFFF, depth, firstLeaf, lastLeaf}
-use Rattle.model.specs.Jobs.{Table, jobs, jobLimit, top, bottom, solo, shares, topDepth, bottomLeaf}
+use Rattle.model.specs.Tree.{FFFF}
+use Rattle.model.specs.Jobs.{Table, jobs, top, solo, shares, topDepth}
 use Rattle.model.specs.Order.{runningOrder, place, slot, slotOrder, earlier}
 use Rattle.model.specs.Greedy.{compatible}
 use Rattle.model.specs.Visits.{askedFrom, askedTo}
@@ -25,9 +24,9 @@ use Rattle.matching.specs.Lists.{found-or-none, find-some, find-none, find-firs
 use Rattle.matching.specs.Compatible.{compatible-true, true-compatible}
 use Rattle.matching.specs.Places.{drop-mem}
 use Rattle.matching.specs.Sorting.{Before}
-use Rattle.matching.specs.RunningOrder.{running-mem, mem-running, running-sorted, running-length, place-lt, place-of-job, job-at-place, behind-place, earlier-place, place-earlier, earlier-depth, slots-mem, slots-length, slot-of-job}
+use Rattle.matching.specs.RunningOrder.{running-mem, running-sorted, running-length, place-lt, place-of-job, job-at-place, behind-place, earlier-place, place-earlier, earlier-depth, slots-mem, slots-length, slot-of-job}
 use Rattle.orders.specs.Accepted.{Accepted}
-use Rattle.sweeping.specs.Shelf.{Shelf, slots, entries, smallest}
+use Rattle.sweeping.specs.Shelf.{slots, entries, smallest}
 use Rattle.sweeping.specs.ShelfLaws.{SmallestSlot, smallest-slot, smallest-le-slot}
 use Rattle.orders.specs.Asked.{asked-slot, asked-bound}
 use Rattle.orders.specs.Prepared.{shelfCells, jobAt, reachDepth, reachOrder}

@@ -1,34 +1,32 @@
 -- Looking up a job's partner: off the shelf itself, the job asks for the slots in the span of its top, and the answer is the greedy rule's choice.
 -- Assumes nothing.
-use Prim.Native.Nat.{ℕ, zero, suc, _+_, _-_, _*_, _<_, _≤_, _^_}
+use Prim.Native.Nat.{ℕ, zero, suc, _+_, _-_, _<_, _≤_, _^_}
 use mathlib.Core.Path.{_≡_, refl, sym, ap, _∙_}
-use mathlib.Core.Bool.{Bool, true, false, cond}
-use mathlib.Core.List.{List, []}
+use mathlib.Core.Bool.{Bool, false, cond}
+use mathlib.Core.List.{List}
 use native.Mathlib.Omega.{arith}
-use native.Mathlib.Decide.{ℕ-discrete}
 use lib.ListN.{length, getD, take, drop}
 use lib.Dec.{eqb, leb, ltb, leb·suc-suc}
-use borrow.Author.Tests.{eq-eqb, ne-eqb, le-ltb}
+use borrow.Author.Tests.{ne-eqb, le-ltb}
 use borrow.Rule.Slice.PartMut.{putMid, same-len-mid}
 use Rattle.model.specs.Lists.{numbers, count}
 use Rattle.model.specs.Tree.{FFFF, firstLeaf, lastLeaf}
-use Rattle.model.specs.Jobs.{Table, jobs, jobLimit, top, solo, topDepth, bottomLeaf}
+use Rattle.model.specs.Jobs.{Table, jobs, top, bottomLeaf}
 use Rattle.model.specs.Order.{slot}
-use Rattle.model.specs.Visits.{levels, visits, lookupVisits, askedFrom, askedTo}
+use Rattle.model.specs.Visits.{lookupVisits, askedFrom, askedTo}
 use Rattle.tree.specs.Leaves.{last-lt, last-is, leaves-nonempty}
 use Rattle.matching.specs.RunningOrder.{slot-lt}
-use Rattle.settle.specs.Spanned.{Spanned}
 use Rattle.orders.specs.RankLaws.{count-same, count-never}
-use Rattle.sweeping.specs.Shelf.{Shelf, Put, LookedUp, slots, entries, smallest}
+use Rattle.sweeping.specs.Shelf.{Put, LookedUp, slots, entries, smallest}
 use Rattle.sweeping.specs.VisitBound.{visits-bound}
 use Rattle.sweeping.specs.Levels.{levels-wide, levels-least}
 use Rattle.orders.specs.Asked.{asked-bound}
 use Rattle.orders.specs.Prepared.{slotCells, shelfCells, jobAt}
-use Rattle.sweeping.specs.Sweep.{free, onShelf}
+use Rattle.sweeping.specs.Sweep.{onShelf}
 use Rattle.sweeping.specs.Shelving.{job-known, shelved-as, shelved-put, prepared-kept, on-out}
 use Rattle.sweeping.specs.Choice.{none-chosen, one-chosen, Chosen}
-use Rattle.sweeping.specs.Steps.{Reaching, Reached, startOf, Choosing, Chose, Partner}
-use Rattle.sweeping.specs.Reaching.{tail-back, front-kept, mid-tail, mid-length, wide-enough}
+use Rattle.sweeping.specs.Steps.{Reaching, startOf, Choosing, Chose}
+use Rattle.sweeping.specs.Reaching.{tail-back, front-kept, mid-tail, mid-length}
 
 -- a place of the shelf stored anew, the rest of the work cells being as they were
 module _ (tb : Table) (ends partners : List ℕ) (k i i′ reached p : ℕ) (b : Bool) (partners′ work : List ℕ) (r : Reaching tb ends partners k i reached work) (room : jobs tb ≤ length partners′) (inside : p < jobs tb)

@@ -1,22 +1,21 @@
 -- The sweep from its start, with an empty shelf and no passes, to its end, where the passes made are the plan.
 -- Assumes nothing.
-use Prim.Native.Nat.{ℕ, zero, suc, _+_, _-_, _*_, _<_, _≤_, _^_}
+use Prim.Native.Nat.{ℕ, suc, _-_, _<_, _≤_, _^_}
 use mathlib.Core.Path.{_≡_, refl, sym, ap, _∙_}
-use mathlib.Core.Bool.{Bool, true, false, cond, not, _&&_}
-use mathlib.Core.List.{List, [], _∷_, _++_, map, append-nil}
+use mathlib.Core.Bool.{Bool, true, false, not, _&&_}
+use mathlib.Core.List.{List, [], map, append-nil}
 use native.Mathlib.Omega.{arith}
-use native.Mathlib.Nat.{pow-suc}
 use lib.ListN.{length, getD, take, drop, replicate, length-replicate, getD-replicate, length-map}
-use lib.Seq.{ext-getD, drop-length, drop-nil}
+use lib.Seq.{ext-getD, drop-length}
 use lib.Pow.{pow-mono}
-use lib.Dec.{eqb, leb}
+use lib.Dec.{leb}
 use borrow.Author.Tests.{eq-eqb}
 use borrow.Rule.Slice.PartMut.{putMid, same-len-mid}
 use Rattle.model.specs.Lists.{elem, numbers, select}
 use Rattle.model.specs.Tree.{FFFF}
-use Rattle.model.specs.Jobs.{Table, tableOf, jobs, jobLimit, solo, topDepth}
+use Rattle.model.specs.Jobs.{Table, jobs, solo}
 use Rattle.model.specs.Order.{runningOrder, slot}
-use Rattle.model.specs.Greedy.{Pass, greedy, compatible, passes}
+use Rattle.model.specs.Greedy.{greedy, compatible, passes}
 use Rattle.model.specs.Visits.{levels, cellCount}
 use Rattle.model.specs.Planning as Planning
 use Rattle.model.specs.Planning.{workCells, partnerIn}
@@ -24,15 +23,13 @@ use Rattle.tree.specs.Lists.{select-all, mem-all}
 use Rattle.tree.specs.Numbers.{numbers-length, numbers-at}
 use Rattle.matching.specs.Passes.{greedy-done}
 use Rattle.matching.specs.RunningOrder.{running-length, running-mem, slot-lt}
-use Rattle.settle.specs.Spanned.{Spanned}
 use Rattle.orders.specs.Accepted.{Accepted}
-use Rattle.common.specs.Common.{Skipping}
-use Rattle.sweeping.specs.Shelf.{Shelf, slots, Cleared}
+use Rattle.sweeping.specs.Shelf.{Cleared}
 use Rattle.sweeping.specs.Levels.{levels-wide, levels-least}
-use Rattle.orders.specs.Prepared.{shelfCells, jobAt, reachOrder, Prepared}
-use Rattle.sweeping.specs.Sweep.{Shelved, free, onShelf, remaining, printedIn, Made}
+use Rattle.orders.specs.Prepared.{shelfCells, jobAt, Prepared}
+use Rattle.sweeping.specs.Sweep.{free, onShelf, remaining, printedIn, Made}
 use Rattle.sweeping.specs.Shelving.{job-known, prepared-kept}
-use Rattle.sweeping.specs.Reaching.{tail-back, front-kept, mid-tail, mid-length}
+use Rattle.sweeping.specs.Reaching.{tail-back, front-kept, mid-length}
 use Rattle.sweeping.specs.Steps.{Surveyed, Sweeping, WorkedOut}
 
 -- a shelf for the jobs fits behind the other work cells

@@ -1,15 +1,14 @@
 -- Pairing two jobs: the partner leaves the shelf, and both find each other and their deepest shared layout.
 -- Assumes nothing.
-use Prim.Native.Nat.{ℕ, zero, suc, _+_, _-_, _<_, _≤_, _^_}
-use mathlib.Core.Path.{_≡_, refl, sym, ap, _∙_}
-use mathlib.Core.Bool.{Bool, true, false, cond}
+use Prim.Native.Nat.{ℕ, suc, _+_, _-_, _<_, _≤_, _^_}
+use mathlib.Core.Path.{_≡_, refl, ap, _∙_}
+use mathlib.Core.Bool.{true, false}
 use mathlib.Core.List.{List}
 use native.Mathlib.Omega.{arith}
 use lib.ListN.{length, getD, set, take, drop, length-set}
 use borrow.Rule.Slice.PartMut.{putMid}
 use Rattle.model.specs.Tree.{FFFF}
-use Rattle.model.specs.Jobs.{Table, jobs, jobLimit, bottom, shares, deepestShared}
-use Rattle.model.specs.Order.{slot}
+use Rattle.model.specs.Jobs.{Table, jobs, bottom, shares}
 use Rattle.matching.specs.RunningOrder.{slot-lt}
 use Rattle.matching.specs.Compatible.{compatible-true}
 use Rattle.common.specs.Common.{Climbable, DeepestCommon, common-shared}

@@ -1,19 +1,19 @@
 -- Reaching one bottom more: its place goes on the shelf exactly if its job is not behind the sweep, is free and is not solo.
 -- Assumes nothing.
-use Prim.Native.Nat.{ℕ, zero, suc, _+_, _-_, _<_, _≤_, _^_}
+use Prim.Native.Nat.{ℕ, _+_, _-_, _<_, _≤_, _^_}
 use mathlib.Core.Path.{_≡_, refl, sym, ap, _∙_}
-use mathlib.Core.Bool.{Bool, true, false, cond, not, _&&_, _||_}
-use mathlib.Core.List.{List, [], _∷_, _++_, append-nil}
+use mathlib.Core.Bool.{Bool, true, false, cond, not, _&&_}
+use mathlib.Core.List.{List, _++_, append-nil}
 use native.Mathlib.Omega.{arith}
 use native.Mathlib.Decide.{ℕ-discrete}
-use lib.ListN.{length, getD, take, drop, length-append, length-take, length-drop, List·getD-append, drop-of-length-le}
-use lib.Seq.{take-all, length-take-le, drop-at, getD-take, drop-drop}
+use lib.ListN.{length, getD, take, drop, length-drop, drop-of-length-le}
+use lib.Seq.{take-all, length-take-le, drop-at, getD-take}
 use lib.Dec.{eqb, leb}
 use borrow.Author.Tests.{eq-eqb, ne-eqb, le-leb, lt-leb}
 use borrow.Rule.Slice.PartMut.{putMid, take-put, same-len-mid}
 use Rattle.model.specs.Lists.{elem}
 use Rattle.model.specs.Tree.{FFFF, depth}
-use Rattle.model.specs.Jobs.{Table, jobs, jobLimit, bottom, solo}
+use Rattle.model.specs.Jobs.{Table, jobs, bottom, solo}
 use Rattle.model.specs.Order.{slot}
 use Rattle.matching.specs.RunningOrder.{slot-lt}
 use Rattle.sweeping.specs.Shelf.{Put}

@@ -1,25 +1,24 @@
 -- What a step of the sweep does to the shelf: which places stand on it afterwards, and that the other work cells stay as they were.
 -- Assumes nothing.
-use Prim.Native.Nat.{ℕ, zero, suc, _+_, _*_, _<_, _≤_, _^_}
+use Prim.Native.Nat.{ℕ, suc, _+_, _<_, _≤_, _^_}
 use mathlib.Core.Path.{_≡_, refl, sym, ap, _∙_}
 use mathlib.Core.Logic.{_≢_}
-use mathlib.Core.Bool.{Bool, true, false, cond, not, _&&_, _||_}
-use mathlib.Core.List.{List, [], _∷_}
+use mathlib.Core.Bool.{Bool, true, false, cond, not, _&&_}
+use mathlib.Core.List.{List}
 use native.Mathlib.Omega.{arith}
 use native.Mathlib.Nat.{pow-suc}
 use native.Mathlib.Decide.{ℕ-discrete, decLt}
-use lib.ListN.{length, getD, set, take, drop, length-take, length-drop}
+use lib.ListN.{length, getD, set, drop, length-drop}
 use lib.Seq.{getD-set-same, getD-set-other, length-take-le}
-use lib.Dec.{eqb, leb, ltb}
+use lib.Dec.{eqb, leb}
 use borrow.Author.Tests.{eq-eqb, ne-eqb, le-leb, lt-leb}
-use Rattle.model.specs.Lists.{elem}
 use Rattle.model.specs.Tree.{FFFF}
 use Rattle.model.specs.Jobs.{Table, jobs, jobLimit, solo}
 use Rattle.model.specs.Order.{runningOrder, slot}
 use Rattle.matching.specs.RunningOrder.{running-mem, running-length, place-of-job, slot-lt, slot-injective}
 use Rattle.tree.specs.Lists.{getD-mem}
 use Rattle.sweeping.specs.Shelf.{Shelf, slots, Put}
-use Rattle.orders.specs.Prepared.{orderCells, slotCells, reachCells, shelfCells, jobAt, reachOrder, Prepared}
+use Rattle.orders.specs.Prepared.{orderCells, slotCells, reachCells, shelfCells, jobAt, Prepared}
 use Rattle.sweeping.specs.Sweep.{Shelved, free, onShelf}
 use Rattle.sweeping.specs.Turn.{joined, free-joined}
 

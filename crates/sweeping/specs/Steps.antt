@@ -2,13 +2,13 @@
 -- Assumes nothing.
 use Prim.Native.Nat.{ℕ, suc, _+_, _-_, _*_, _<_, _≤_}
 use mathlib.Core.Path.{_≡_}
-use mathlib.Core.Bool.{Bool, true, false, cond}
+use mathlib.Core.Bool.{true, false, cond}
 use mathlib.Core.Option.{none, some}
 use mathlib.Core.List.{List}
 use lib.ListN.{length, getD, set, take, replicate}
 use lib.Dec.{leb, eqb}
 use Rattle.model.specs.Lists.{elem, find}
-use Rattle.model.specs.Jobs.{Table, tableOf, jobs, jobLimit, solo, topDepth, deepestShared}
+use Rattle.model.specs.Jobs.{Table, tableOf, jobs, solo, topDepth, deepestShared}
 use Rattle.model.specs.Visits.{levels, lookupVisits, cellCount}
 use Rattle.model.specs.Planning as Planning
 use Rattle.model.specs.Planning.{workCells}

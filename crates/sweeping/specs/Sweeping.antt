@@ -1,31 +1,30 @@
 -- From turn to turn: each way that a turn can end leaves the sweep at the next place.
 -- Assumes nothing.
-use Prim.Native.Nat.{ℕ, zero, suc, _+_, _*_, _<_, _≤_}
+use Prim.Native.Nat.{ℕ, suc, _+_, _<_, _≤_}
 use mathlib.Core.Path.{_≡_, refl, sym, ap, _∙_}
 use mathlib.Core.Logic.{_≢_}
-use mathlib.Core.Bool.{Bool, true, false, not, _&&_, cond}
-use mathlib.Core.Option.{Option, none, some}
+use mathlib.Core.Bool.{Bool, true, false, not}
+use mathlib.Core.Option.{none}
 use mathlib.Core.List.{List, [], _∷_}
 use native.Mathlib.Nat.{add-zero}
 use native.Mathlib.Omega.{arith}
 use native.Mathlib.Numerals.{add-one}
-use lib.ListN.{length, getD, length-set}
-use lib.Dec.{eqb}
+use lib.ListN.{getD, length-set}
 use borrow.Author.Tests.{eq-eqb, ne-eqb}
 use Rattle.model.specs.Lists.{find}
-use Rattle.model.specs.Tree.{FFFF, depth}
+use Rattle.model.specs.Tree.{FFFF}
 use Rattle.model.specs.Jobs.{Table, jobs, jobLimit, top, solo, shares, topDepth}
 use Rattle.model.specs.Greedy.{compatible}
 use Rattle.model.specs.Visits.{lookupVisits}
 use Rattle.matching.specs.Compatible.{compatible-true}
 use Rattle.common.specs.Common.{shared-symmetric}
 use Rattle.orders.specs.Prepared.{orderCells, jobAt, reachDepth}
-use Rattle.sweeping.specs.Sweep.{free, onShelf, remaining, Made}
+use Rattle.sweeping.specs.Sweep.{free, onShelf, remaining}
 use Rattle.orders.specs.Reach.{reachAt}
 use Rattle.sweeping.specs.Choice.{later-depth}
 use Rattle.sweeping.specs.Shelving.{job-known, job-apart, shelved-as, on-paired, on-solo}
 use Rattle.sweeping.specs.Turn.{made-paired, made-alone, made-pair}
-use Rattle.sweeping.specs.Steps.{Surveyed, Reaching, Deep, Reached, Choosing, Chose, Joining, Joined, Offering, Sweeping}
+use Rattle.sweeping.specs.Steps.{Reaching, Deep, Reached, Chose, Joining, Joined, Offering, Sweeping}
 
 -- nothing is found where nothing passes
 find-never : (p : ℕ → Bool) (l : List ℕ) → ((x : ℕ) → p x ≡ false) → find p l ≡ none

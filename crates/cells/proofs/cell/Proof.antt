@@ -1,13 +1,10 @@
 -- `cells::cell` meets its contract: inside the cells it reads one, past them the list's default stands.
 -- Assumes nothing.
-use native.Mathlib.Omega.{arith}
 use borrow.Author.Needs.{needs}
 use mathlib.Core.Path.{sym}
 use lib.ListN.{List·getD-eq-default}
 use Rattle.cells.proofs.cell.Statement.{statement}
 use Rattle.cells.proofs.cell.Tie as tie
-use Rattle.cells.proofs.cell.Reads as reads
-use Rattle.cells.proofs.cell.Lts as lts
 
 -- src/cells.rt:10:16
 mul-result : tie.Need-mul-result

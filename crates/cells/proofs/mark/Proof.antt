@@ -1,13 +1,10 @@
 -- `cells::mark` meets its contract: inside the cells it reads one, past them the list's default stands.
 -- Assumes nothing.
-use native.Mathlib.Omega.{arith}
 use borrow.Author.Needs.{needs}
 use mathlib.Core.Path.{sym}
 use lib.ListN.{List·getD-eq-default}
 use Rattle.cells.proofs.mark.Statement.{statement}
 use Rattle.cells.proofs.mark.Tie as tie
-use Rattle.cells.proofs.mark.Reads as reads
-use Rattle.cells.proofs.mark.Lts as lts
 
 -- src/cells.rt:27:16
 shared-slice-read-result : tie.Need-shared-slice-read-result

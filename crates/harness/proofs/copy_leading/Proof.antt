@@ -7,7 +7,7 @@ use native.Mathlib.Nat.{le-of-suc-le-suc, not-suc-le-zero}
 use native.Mathlib.Numerals.{add-one}
 use native.Mathlib.Omega.{arith}
 use borrow.Author.Needs.{needs}
-use lib.ListN.{length, take, drop, set, getD, length-set, drop-of-length-le}
+use lib.ListN.{length, take, drop, set, getD, drop-of-length-le}
 use lib.Seq.{take-all, take-length, drop-length}
 use Rattle.harness.specs.Packed.{copied}
 use Rattle.harness.proofs.copy_leading.Statement.{statement}

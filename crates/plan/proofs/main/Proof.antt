@@ -4,12 +4,6 @@ use borrow.Author.Needs.{needs}
 use Rattle.plan.specs.Within.{run-within}
 use Rattle.plan.proofs.main.Statement.{statement}
 use Rattle.plan.proofs.main.Tie as tie
-use Rattle.plan.proofs.main.Reads as reads
-use Rattle.plan.proofs.main.Lts as lts
-use Rattle.io.proofs.large_buffer.Reads as large-buffer-reads
-use Rattle.io.proofs.read_full.Reads as read-full-reads
-use Rattle.io.proofs.write_all.Reads as write-all-reads
-use Rattle.run.proofs.murdzeki_plan.Reads as murdzeki-plan-reads
 
 -- src/main.rt:6:21
 large-buffer-requires : tie.Need-large-buffer-requires

@@ -1,14 +1,9 @@
-use native.Mathlib.Omega.{arith}
 use borrow.Author.Needs.{needs}
 use mathlib.Core.Path.{ap, _∙_}
 use Prim.Native.Nat.{ℕ}
 use lib.ListN.{replicate}
 use Rattle.planner.proofs.fill_in.Statement.{statement}
 use Rattle.planner.proofs.fill_in.Tie as tie
-use Rattle.planner.proofs.fill_in.Reads as reads
-use Rattle.planner.proofs.fill_in.Lts as lts
-use Rattle.cells.proofs.fill.Reads as fill-reads
-use Rattle.planner.proofs.work_out.Reads as work-out-reads
 
 -- src/lib.rt:115:9
 work-out-requires : tie.Need-work-out-requires

@@ -1,13 +1,10 @@
 -- `planner::levels_of` meets its contract: while the width is too small, the levels are those of the definition one level further on.
 -- Assumes nothing.
-use borrow.Author.Needs.{needs}
 use native.Mathlib.Omega.{arith}
 use Prim.Native.Nat.{_-_}
 use Rattle.sweeping.specs.Levels.{LevelsTo, levels-begin, levels-room, levels-step, levels-found}
 use Rattle.planner.proofs.levels_of.Statement.{statement}
 use Rattle.planner.proofs.levels_of.Tie as tie
-use Rattle.planner.proofs.levels_of.Reads as reads
-use Rattle.planner.proofs.levels_of.Lts as lts
 
 abbrev Inv-loop : tie.InvT-loop
 Inv-loop count level₀ width₀ level width = LevelsTo count level width

@@ -10,11 +10,6 @@ use Rattle.planner.specs.Settling.{settled-wrong, settled-right, settled
 use Rattle.planner.specs.PlanLaws.{refused-as}
 use Rattle.planner.proofs.plan.Statement.{statement}
 use Rattle.planner.proofs.plan.Tie as tie
-use Rattle.planner.proofs.plan.Reads as reads
-use Rattle.planner.proofs.plan.Lts as lts
-use Rattle.planner.proofs.plan_settled.Reads as plan-settled-reads
-use Rattle.planner.proofs.refuse.Reads as refuse-reads
-use Rattle.settle.proofs.settle_layouts.Reads as settle-layouts-reads
 
 -- src/lib.rt:145:9
 refuse-requires : tie.Need-refuse-requires

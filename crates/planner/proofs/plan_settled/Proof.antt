@@ -1,14 +1,9 @@
-use native.Mathlib.Omega.{arith}
 use borrow.Author.Needs.{needs}
 use mathlib.Core.Path.{sym, refl}
 use lib.Seq.{length-take-le}
 use Rattle.planner.specs.PlanLaws.{refused-job, filling, planned-as}
 use Rattle.planner.proofs.plan_settled.Statement.{statement}
 use Rattle.planner.proofs.plan_settled.Tie as tie
-use Rattle.planner.proofs.plan_settled.Reads as reads
-use Rattle.planner.proofs.plan_settled.Lts as lts
-use Rattle.planner.proofs.fill_in.Reads as fill-in-reads
-use Rattle.planner.proofs.jobs.check_jobs.Reads as check-jobs-reads
 
 -- src/lib.rt:110:9
 check-jobs-requires : tie.Need-check-jobs-requires

@@ -5,14 +5,6 @@ use Rattle.sweeping.specs.Reaching.{mid-length}
 use Rattle.sweeping.specs.Filling.{shelf-room, start-filled, end-worked-out}
 use Rattle.planner.proofs.work_out.Statement.{statement}
 use Rattle.planner.proofs.work_out.Tie as tie
-use Rattle.planner.proofs.work_out.Reads as reads
-use Rattle.planner.proofs.work_out.Lts as lts
-use Rattle.common.proofs.set_skips.Reads as set-skips-reads
-use Rattle.cells.proofs.fill.Reads as fill-reads
-use Rattle.planner.proofs.levels_of.Reads as levels-of-reads
-use Rattle.orders.proofs.prepare.prepare.Reads as prepare-reads
-use Rattle.planner.proofs.shelf.clear.Reads as clear-reads
-use Rattle.planner.proofs.sweep.sweep.Reads as sweep-reads
 
 -- src/lib.rt:61:40
 slice-aggregate-set-skips : tie.Need-slice-aggregate-set-skips

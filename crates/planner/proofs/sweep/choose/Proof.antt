@@ -10,12 +10,6 @@ use Rattle.sweeping.specs.Reaching.{mid-tail, mid-length}
 use Rattle.sweeping.specs.Choosing.{own-inside, taken-off, to-inside, chosen}
 use Rattle.planner.proofs.sweep.choose.Statement.{statement}
 use Rattle.planner.proofs.sweep.choose.Tie as tie
-use Rattle.planner.proofs.sweep.choose.Reads as reads
-use Rattle.planner.proofs.sweep.choose.Lts as lts
-use Rattle.cells.proofs.index.Reads as index-reads
-use Rattle.planner.proofs.shelf.lookup.Reads as lookup-reads
-use Rattle.planner.proofs.shelf.put.Reads as put-reads
-use Rattle.planner.proofs.sweep.start_of.Reads as start-of-reads
 
 -- src/sweep.rt:117:28
 add-index : tie.Need-add-index

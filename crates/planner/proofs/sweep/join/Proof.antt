@@ -5,13 +5,6 @@ use Rattle.sweeping.specs.Reaching.{mid-tail, mid-length}
 use Rattle.sweeping.specs.Joining.{other-slot, climbable, one-small, one-room, other-room, one-layout-room, other-layout-room, joined}
 use Rattle.planner.proofs.sweep.join.Statement.{statement}
 use Rattle.planner.proofs.sweep.join.Tie as tie
-use Rattle.planner.proofs.sweep.join.Reads as reads
-use Rattle.planner.proofs.sweep.join.Lts as lts
-use Rattle.cells.proofs.cell.Reads as cell-reads
-use Rattle.cells.proofs.index.Reads as index-reads
-use Rattle.common.proofs.deepest_common.Reads as deepest-common-reads
-use Rattle.planner.proofs.shelf.put.Reads as put-reads
-use Rattle.planner.proofs.sweep.set_both.Reads as set-both-reads
 
 -- src/sweep.rt:158:29
 add-index : tie.Need-add-index

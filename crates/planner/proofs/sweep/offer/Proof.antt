@@ -3,10 +3,6 @@ use borrow.Author.Needs.{needs}
 use Rattle.sweeping.specs.Sweeping.{offered-alone, offered-joining, offered-pair}
 use Rattle.planner.proofs.sweep.offer.Statement.{statement}
 use Rattle.planner.proofs.sweep.offer.Tie as tie
-use Rattle.planner.proofs.sweep.offer.Reads as reads
-use Rattle.planner.proofs.sweep.offer.Lts as lts
-use Rattle.planner.proofs.sweep.choose.Reads as choose-reads
-use Rattle.planner.proofs.sweep.join.Reads as join-reads
 
 -- src/sweep.rt:205:9
 choose-requires : tie.Need-choose-requires

@@ -1,5 +1,4 @@
 use borrow.Author.Needs.{needs}
-use native.Mathlib.Omega.{arith}
 use Prim.Native.Nat.{_-_}
 use mathlib.Core.Path.{_∙_, sym}
 use lib.ListN.{length}
@@ -7,11 +6,6 @@ use Rattle.model.specs.Jobs.{tableOf}
 use Rattle.sweeping.specs.Reaching.{ReachingDeep, reached-all, reached-some, reached-further}
 use Rattle.planner.proofs.sweep.reach.Statement.{statement}
 use Rattle.planner.proofs.sweep.reach.Tie as tie
-use Rattle.planner.proofs.sweep.reach.Reads as reads
-use Rattle.planner.proofs.sweep.reach.Lts as lts
-use Rattle.cells.proofs.cell.Reads as cell-reads
-use Rattle.cells.proofs.index.Reads as index-reads
-use Rattle.planner.proofs.sweep.shelve.Reads as shelve-reads
 
 abbrev Inv-loop : tie.InvT-loop
 Inv-loop parents tops bottoms marks depths ends partners work₀ levels i level reached next₀ work next =

@@ -1,15 +1,8 @@
-use native.Mathlib.Omega.{arith}
 use borrow.Author.Needs.{needs}
 use mathlib.Core.Path.{_∙_}
 use Rattle.sweeping.specs.Reaching.{passed-behind, passed-paired, passed-solo, slot-inside, put-reached, mid-tail, mid-length}
 use Rattle.planner.proofs.sweep.shelve.Statement.{statement}
 use Rattle.planner.proofs.sweep.shelve.Tie as tie
-use Rattle.planner.proofs.sweep.shelve.Reads as reads
-use Rattle.planner.proofs.sweep.shelve.Lts as lts
-use Rattle.cells.proofs.cell.Reads as cell-reads
-use Rattle.cells.proofs.index.Reads as index-reads
-use Rattle.cells.proofs.mark.Reads as mark-reads
-use Rattle.planner.proofs.shelf.put.Reads as put-reads
 
 -- src/sweep.rt:39:25
 add-index : tie.Need-add-index

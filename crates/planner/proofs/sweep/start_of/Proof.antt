@@ -1,14 +1,10 @@
 -- `planner::sweep::start_of` meets its contract: none lies left of leaf 0, else those at most the leaf before.
 -- Assumes nothing.
-use native.Mathlib.Omega.{arith}
 use borrow.Author.Needs.{needs}
 use mathlib.Core.Path.{refl}
 use borrow.Author.Tests.{eq-eqb, ne-eqb}
 use Rattle.planner.proofs.sweep.start_of.Statement.{statement}
 use Rattle.planner.proofs.sweep.start_of.Tie as tie
-use Rattle.planner.proofs.sweep.start_of.Reads as reads
-use Rattle.planner.proofs.sweep.start_of.Lts as lts
-use Rattle.cells.proofs.index.Reads as index-reads
 
 -- src/sweep.rt:92:9
 returns : tie.Need-returns

@@ -7,9 +7,6 @@ use Rattle.model.specs.Jobs.{tableOf}
 use Rattle.sweeping.specs.Steps.{Sweeping}
 use Rattle.planner.proofs.sweep.sweep.Statement.{statement}
 use Rattle.planner.proofs.sweep.sweep.Tie as tie
-use Rattle.planner.proofs.sweep.sweep.Reads as reads
-use Rattle.planner.proofs.sweep.sweep.Lts as lts
-use Rattle.planner.proofs.sweep.turn.Reads as turn-reads
 
 abbrev Inv-loop : tie.InvT-loop
 Inv-loop parents tops bottoms marks depths firsts lasts skips ends partners₀ layouts₀ work₀ levels tally₀ i₀ partners layouts work tally i =

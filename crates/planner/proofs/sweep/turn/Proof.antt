@@ -3,13 +3,6 @@ use borrow.Author.Needs.{needs}
 use Rattle.sweeping.specs.Sweeping.{turn-deep, turned-paired, turned-solo, turned-offering}
 use Rattle.planner.proofs.sweep.turn.Statement.{statement}
 use Rattle.planner.proofs.sweep.turn.Tie as tie
-use Rattle.planner.proofs.sweep.turn.Reads as reads
-use Rattle.planner.proofs.sweep.turn.Lts as lts
-use Rattle.cells.proofs.cell.Reads as cell-reads
-use Rattle.cells.proofs.index.Reads as index-reads
-use Rattle.cells.proofs.mark.Reads as mark-reads
-use Rattle.planner.proofs.sweep.offer.Reads as offer-reads
-use Rattle.planner.proofs.sweep.reach.Reads as reach-reads
 
 -- src/sweep.rt:252:25
 add-index : tie.Need-add-index
