@@ -14,8 +14,8 @@ extern "C" {
 
 /*
  * Reads the table in the first `input_length` bytes of `input`, plans its passes and writes the plan's lines to `output`; a table that
- * cannot be read is answered by one refusal line. Returns the length of what was written, and sets every byte of `output` from there up
- * to `output_length` to 0.
+ * cannot be read is answered by one refusal line. Returns the length of these lines, and sets every byte of `output` from there up to
+ * `output_length` to 0.
  *
  * Returns 0 if and only if `output_length` is below MURDZEKI_OUTPUT; then nothing is written.
  *

@@ -12,8 +12,7 @@ use lib.Seq.{take-nil, getD-drop}
 use lib.Dec.{eqb}
 use borrow.Author.Tests.{eqb-true, lt-ltb, le-ltb}
 use Rattle.model.specs.Lists.{all}
-use Rattle.model.specs.Table.{isDigit, kindOf, fieldAt, layoutFrame, jobFrame, soloFrame, endFrame, frameOf}
-use Rattle.frame.specs.Answer.{firstLine}
+use Rattle.model.specs.Table.{isDigit, kindOf, fieldAt, layoutFrame, jobFrame, soloFrame, endFrame, firstLine, frameOf}
 use Rattle.frame.specs.Fields.{FieldRead, KindRead, endsAfter}
 use Rattle.frame.specs.Lines.{digitLine, end-within, short-line, longFrame, long-line, no-frame}
 

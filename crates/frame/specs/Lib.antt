@@ -1,4 +1,3 @@
--- What reading one line answers, what is read at fixed positions of it, and what these tell of the line.
-pub mod Answer
+-- What is read at fixed positions of a line, and what that tells of the line.
 pub mod Fields
 pub mod Lines

@@ -12,14 +12,20 @@ use lib.Seq.{take-nil, take-take, length-take-le}
 use lib.Dec.{eqb, leb}
 use borrow.Author.Tests.{eqb-true, eq-eqb, ne-eqb}
 use Rattle.model.specs.Lists.{all}
-use Rattle.model.specs.Table.{isDigit, numberAfter, kindOf, fieldAt, Line, whole, cut, lead, lines, layoutFrame, jobFrame, soloFrame, endFrame, frameOfKind, frameOf}
-use Rattle.model.specs.Answers.{frameCase}
+use Rattle.model.specs.Table.{isDigit, numberAfter, kindOf, fieldAt, Line, whole, cut, lead, lines, firstOf, firstLine, layoutFrame, jobFrame, soloFrame, endFrame, frameOfKind, frameOf}
+use Rattle.model.specs.Answers.{frameCase, found, refusal, frameAnswer, lineAnswer}
 use Rattle.model.specs.declared.Frame.{Frame}
 use Rattle.model.specs.declared.Refusal.{Refusal}
 use Rattle.model.specs.declared.FrameRead.{FrameRead}
 use Rattle.model.specs.declared.FrameRead.the-variants.{Read, Refused}
 use Rattle.model.specs.Table as Table
-use Rattle.frame.specs.Answer.{firstOf, firstLine, width, found, refuses, frameAnswer, lineAnswer}
+
+-- how many bytes a frame's line has, its 0A among them
+abbrev pub width : Table.Frame → ℕ
+width (layoutFrame p) = 7
+width (jobFrame t b) = 11
+width (soloFrame t b) = 11
+width (endFrame n m) = 11
 
 -- n digits and then byte 0A stand at the front
 unfoldable pub digitLine : ℕ → List ℕ → Bool
@@ -227,7 +233,7 @@ some-line (b ∷ bs) h = go (eqb b 10)
 
 pub frame-answered : (r : FrameRead) (f : Frame) (line : ℕ) (o : Option Table.Frame) → frameAnswer r ≡ lineAnswer line o → r ≡ Read f → o ≡ some (frameCase f)
 frame-answered r f line none e q =
-    let z : found (frameCase f) ≡ refuses 1 line = ap frameAnswer (sym q) ∙ e in
+    let z : found (frameCase f) ≡ refusal 1 line = ap frameAnswer (sym q) ∙ e in
     let apart : _≡_ {A = ℕ} 0 1 = cc in
     absurd (omega arith)
 frame-answered r f line (some g) e q = let z : found (frameCase f) ≡ found g = ap frameAnswer (sym q) ∙ e in cc
@@ -239,9 +245,9 @@ pub record NoFrame (x : Refusal) (line : ℕ) (o : Option Table.Frame) : Type 0 
 
 pub refusal-answered : (r : FrameRead) (x : Refusal) (line : ℕ) (o : Option Table.Frame) → frameAnswer r ≡ lineAnswer line o → r ≡ Refused x → NoFrame x line o
 refusal-answered r x line none e q =
-    let z : refuses (x .number) (x .place) ≡ refuses 1 line = ap frameAnswer (sym q) ∙ e in
+    let z : refusal (x .number) (x .place) ≡ refusal 1 line = ap frameAnswer (sym q) ∙ e in
     record { none-there = refl; number-one = cc; own-line = cc }
 refusal-answered r x line (some g) e q =
-    let z : refuses (x .number) (x .place) ≡ found g = ap frameAnswer (sym q) ∙ e in
+    let z : refusal (x .number) (x .place) ≡ found g = ap frameAnswer (sym q) ∙ e in
     let apart : _≡_ {A = ℕ} 0 1 = cc in
     absurd (omega arith)

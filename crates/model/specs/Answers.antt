@@ -1,11 +1,15 @@
 -- Document 01's number and values for each case of an enum that an operation answers.
 -- Assumes nothing.
+use Prim.Native.Nat.{ℕ}
+use mathlib.Core.Option.{Option, none, some}
 use mathlib.Core.List.{[], _∷_}
 use Rattle.model.specs.Verdict.{Answer, gives, refuses}
 use Rattle.model.specs.Table as Table
 use Rattle.model.specs.Table.{layoutFrame, jobFrame, soloFrame, endFrame}
 use Rattle.model.specs.declared.Frame.{Frame}
 use Rattle.model.specs.declared.Frame.the-variants.{Layout, Job, Solo, End}
+use Rattle.model.specs.declared.FrameRead.{FrameRead}
+use Rattle.model.specs.declared.FrameRead.the-variants as frame-read
 use Rattle.model.specs.declared.Settled.{Settled}
 use Rattle.model.specs.declared.Settled.the-variants as settled
 use Rattle.model.specs.declared.TableRead.{TableRead}
@@ -19,6 +23,20 @@ frameCase (Layout p) = layoutFrame (p .0)
 frameCase (Job t b) = jobFrame (t .0) (b .0)
 frameCase (Solo t b) = soloFrame (t .0) (b .0)
 frameCase (End n m) = endFrame n m
+
+-- reading one line finds its frame, or refuses
+pub data LineAnswer : Type 0 where
+  found : Table.Frame → LineAnswer
+  refusal : ℕ → ℕ → LineAnswer
+
+abbrev pub frameAnswer : FrameRead → LineAnswer
+frameAnswer (frame-read.Read f) = found (frameCase f)
+frameAnswer (frame-read.Refused r) = refusal (r .number) (r .place)
+
+-- what is due for the line with this number: a line that is no frame is refusal 1 there
+abbrev pub lineAnswer : ℕ → Option Table.Frame → LineAnswer
+lineAnswer line none = refusal 1 line
+lineAnswer line (some f) = found f
 
 -- settling gives back nothing beside its buffers, or refuses
 abbrev pub settledAnswer : Settled → Answer

@@ -2,8 +2,8 @@
 -- Assumes nothing.
 use Prim.Native.Nat.{ℕ}
 use mathlib.Core.Path.{_≡_, refl}
-use mathlib.Core.List.{List, [], _∷_, map, flatMap, headD}
-use lib.ListN.{length}
+use mathlib.Core.List.{List, [], _∷_, _++_, map, flatMap, headD}
+use lib.ListN.{length, getD}
 use Rattle.model.specs.Lists.{numbersFrom, numbers, elem, indexOf, lastD, any, all, select, count, find, total, insertBy, sortBy}
 use Rattle.model.specs.Verdict.{Verdict, accepted, refused}
 use Rattle.model.specs.Tree.{FFFF, rightParent, layoutsFrom, treeVerdict, climb, chain, above, depth, children, orSelf, leavesWithin, leaves, firstLeaf, lastLeaf}
@@ -12,6 +12,8 @@ use Rattle.model.specs.Order.{earlier, runningOrder, place, leftward, sl
 use Rattle.model.specs.Greedy.{Pass, pair, single, without, turn, turns, greedy, compatible, passes}
 use Rattle.model.specs.Visits.{levelsFrom, levels, cellVisits, visits, askedFrom, askedTo, lookupVisits, passVisits, cellCount}
 use Rattle.model.specs.Planning.{workCells, lentVerdict, jobsVerdict, planVerdict, partnerIn, pairCount, singleCount, partners, printed, layouts, pairs, singles}
+use Rattle.model.specs.Table.{isDigit, digitValue, numberAfter, lead, lines, frameOfKind, frameOf, isEnd, outOfOrder, contentVerdict, frameVerdict, extended, unlessRefused, readFrame, readLines, readTable}
+use Rattle.model.specs.Output.{digit, hex, line, passLine, totalsLine, planBytes, refusalBytes, readingBytes, runBytes}
 
 -- a plan's passes, `I J L` or `I`, its partners and layouts by job, and its totals; or a refusal's number and place
 data Outcome : Type 0 where
@@ -96,6 +98,55 @@ examples =
 examples-hold : map planned examples ≡ map (λ (e : Example). e .expected) examples
 unfolding numbersFrom numbers elem indexOf lastD any all select count find total insertBy sortBy rightParent layoutsFrom treeVerdict climb chain above depth children orSelf leavesWithin leaves firstLeaf lastLeaf solo upTo pathFrom path shares deepestShared topDepth bottomLeaf jobVerdict earlier runningOrder place leftward slotOrder slot without turn turns greedy compatible passes levelsFrom levels cellVisits visits askedFrom askedTo lookupVisits passVisits cellCount lentVerdict jobsVerdict planVerdict partnerIn pairCount singleCount partners printed layouts pairs singles passNumbers outcome _-_ _solo_ tableOf planned F bakehouse examples flatMap headD
 examples-hold = refl
+
+-- ---- from bytes to bytes
+
+-- a line by its digits' values
+spelled : List ℕ → List ℕ
+spelled ds = map (λ (d : ℕ). getD (48 ∷ 49 ∷ 50 ∷ 51 ∷ 52 ∷ 53 ∷ 54 ∷ 55 ∷ 56 ∷ 57 ∷ 65 ∷ 66 ∷ 67 ∷ 68 ∷ 69 ∷ 70 ∷ []) d 0) ds ++ 10 ∷ []
+
+-- a table's lines, and all that is printed for them
+record Printing : Type 0 where
+  table : List (List ℕ)
+  printed : List (List ℕ)
+
+-- the bakehouse table, no bytes at all, and the two refused tables
+printings : List Printing
+printings =
+    record {
+      table =
+          (0 ∷ 1 ∷ 15 ∷ 15 ∷ 15 ∷ 15 ∷ [])
+          ∷ (0 ∷ 1 ∷ 0 ∷ 0 ∷ 0 ∷ 0 ∷ [])
+          ∷ (0 ∷ 1 ∷ 0 ∷ 0 ∷ 0 ∷ 0 ∷ [])
+          ∷ (0 ∷ 1 ∷ 0 ∷ 0 ∷ 0 ∷ 1 ∷ [])
+          ∷ (0 ∷ 2 ∷ 0 ∷ 0 ∷ 0 ∷ 0 ∷ 0 ∷ 0 ∷ 0 ∷ 3 ∷ [])
+          ∷ (0 ∷ 2 ∷ 0 ∷ 0 ∷ 0 ∷ 1 ∷ 0 ∷ 0 ∷ 0 ∷ 3 ∷ [])
+          ∷ (0 ∷ 2 ∷ 0 ∷ 0 ∷ 0 ∷ 2 ∷ 0 ∷ 0 ∷ 0 ∷ 2 ∷ [])
+          ∷ (0 ∷ 2 ∷ 0 ∷ 0 ∷ 0 ∷ 0 ∷ 0 ∷ 0 ∷ 0 ∷ 2 ∷ [])
+          ∷ (0 ∷ 2 ∷ 0 ∷ 0 ∷ 0 ∷ 3 ∷ 0 ∷ 0 ∷ 0 ∷ 3 ∷ [])
+          ∷ (0 ∷ 3 ∷ 0 ∷ 0 ∷ 0 ∷ 4 ∷ 0 ∷ 0 ∷ 0 ∷ 5 ∷ [])
+          ∷ [];
+      printed =
+          (1 ∷ 1 ∷ 0 ∷ 0 ∷ 0 ∷ 4 ∷ 0 ∷ 0 ∷ 0 ∷ 1 ∷ 0 ∷ 0 ∷ 0 ∷ 3 ∷ [])
+          ∷ (1 ∷ 1 ∷ 0 ∷ 0 ∷ 0 ∷ 2 ∷ 0 ∷ 0 ∷ 0 ∷ 3 ∷ 0 ∷ 0 ∷ 0 ∷ 2 ∷ [])
+          ∷ (1 ∷ 2 ∷ 0 ∷ 0 ∷ 0 ∷ 0 ∷ [])
+          ∷ (1 ∷ 15 ∷ 0 ∷ 0 ∷ 0 ∷ 2 ∷ 0 ∷ 0 ∷ 0 ∷ 1 ∷ 0 ∷ 0 ∷ 0 ∷ 0 ∷ 0 ∷ 0 ∷ 1 ∷ 9 ∷ [])
+          ∷ [];
+    }
+    ∷ record { table = []; printed = (1 ∷ 14 ∷ 0 ∷ 7 ∷ 0 ∷ 0 ∷ 0 ∷ 1 ∷ []) ∷ [] }
+    ∷ record {
+      table = (0 ∷ 1 ∷ 15 ∷ 15 ∷ 15 ∷ 15 ∷ []) ∷ (0 ∷ 1 ∷ 0 ∷ 0 ∷ 0 ∷ 1 ∷ []) ∷ [];
+      printed = (1 ∷ 14 ∷ 0 ∷ 4 ∷ 0 ∷ 0 ∷ 0 ∷ 2 ∷ []) ∷ [];
+    }
+    ∷ record {
+      table = (0 ∷ 1 ∷ 15 ∷ 15 ∷ 15 ∷ 15 ∷ []) ∷ (0 ∷ 1 ∷ 0 ∷ 0 ∷ 0 ∷ 0 ∷ []) ∷ (0 ∷ 2 ∷ 0 ∷ 0 ∷ 0 ∷ 1 ∷ 0 ∷ 0 ∷ 0 ∷ 0 ∷ []) ∷ [];
+      printed = (1 ∷ 14 ∷ 0 ∷ 6 ∷ 0 ∷ 0 ∷ 0 ∷ 3 ∷ []) ∷ [];
+    }
+    ∷ []
+
+printings-hold : map (λ (e : Printing). runBytes (flatMap spelled (e .table))) printings ≡ map (λ (e : Printing). flatMap spelled (e .printed)) printings
+unfolding numbersFrom numbers elem indexOf lastD any all select count find total insertBy sortBy rightParent layoutsFrom treeVerdict climb chain above depth children orSelf leavesWithin leaves firstLeaf lastLeaf solo upTo pathFrom path shares deepestShared topDepth bottomLeaf jobVerdict earlier runningOrder place leftward slotOrder slot without turn turns greedy compatible passes levelsFrom levels cellVisits visits askedFrom askedTo lookupVisits passVisits cellCount lentVerdict jobsVerdict planVerdict partnerIn pairCount singleCount partners printed layouts pairs singles passNumbers outcome _-_ _solo_ tableOf planned F bakehouse examples flatMap headD isDigit digitValue numberAfter lead lines frameOfKind frameOf isEnd outOfOrder contentVerdict frameVerdict extended unlessRefused readFrame readLines readTable digit hex line passLine totalsLine planBytes refusalBytes readingBytes runBytes spelled printings
+printings-hold = refl
 
 -- the running order of the bakehouse, and the cells that the lookups of jobs 4, 2 and 0 visit
 bakehouse-sweep : (runningOrder (tableOf bakehouse) ≡ 4 ∷ 1 ∷ 2 ∷ 0 ∷ 3 ∷ []) × (map (lookupVisits (tableOf bakehouse)) (4 ∷ 2 ∷ 0 ∷ []) ≡ 7 ∷ 11 ∷ 7 ∷ [])

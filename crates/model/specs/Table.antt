@@ -43,6 +43,15 @@ unfoldable pub lines : List ℕ → List Line
 lines [] = []
 lines (b ∷ bs) = cond (eqb b 10) (whole [] ∷ lines bs) (lead b (lines bs))
 
+-- the first of some lines; where there are none, a line without its 0A
+abbrev pub firstOf : List Line → Line
+firstOf [] = cut []
+firstOf (l ∷ ls) = l
+
+-- the line that the bytes begin with
+unfoldable pub firstLine : List ℕ → Line
+firstLine bytes = firstOf (lines bytes)
+
 -- ---- frames
 
 -- a line's content: its kind and fields

@@ -65,7 +65,7 @@ module _ (line : ℕ) (tb : Table) (some-layout : 0 < length (tb .parents)) wher
   goes-on-after t b zero = refl
   goes-on-after t b (suc mark) = refl
 
-  long-job : (t b mark : ℕ) → Rattle.frame.specs.Answer.width (jobOf t b mark) ≡ 11
+  long-job : (t b mark : ℕ) → Rattle.frame.specs.Lines.width (jobOf t b mark) ≡ 11
   long-job t b zero = refl
   long-job t b (suc mark) = refl
 

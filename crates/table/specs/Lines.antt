@@ -14,8 +14,7 @@ use Rattle.model.specs.Tree.{layoutLimit, rightParent}
 use Rattle.model.specs.Jobs.{Table, jobs}
 use Rattle.model.specs.Table.{read, stopped, lines, layoutFrame, jobFrame, soloFrame, endFrame, frameVerdict, contentVerdict, outOfOrder, extended, isEnd, unlessRefused, readFrame, readLines}
 use Rattle.model.specs.Table as Format
-use Rattle.frame.specs.Answer.{width}
-use Rattle.frame.specs.Lines.{next-line, some-line}
+use Rattle.frame.specs.Lines.{width, next-line, some-line}
 use Rattle.table.specs.Steps.{onwards, frameAt, layoutsOnly, LayoutAccepted, FrameOutcome, StepOutcome}
 use Rattle.table.specs.declared.Step.{Step}
 use Rattle.table.specs.declared.Step.the-variants as step

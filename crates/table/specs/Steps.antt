@@ -10,12 +10,12 @@ use lib.Dec.{leb}
 use Rattle.model.specs.Verdict.{Verdict, accepted, refused, refuseIf, _then_}
 use Rattle.model.specs.Tree.{FFFF, layoutLimit, rightParent, layoutsFrom}
 use Rattle.model.specs.Jobs.{Table, tableOf, jobs, jobLimit, jobVerdict}
-use Rattle.model.specs.Table.{Reading, read, stopped, lines, layoutFrame, jobFrame, soloFrame, frameOf, frameVerdict, withJob, extended, isEnd, readLines, readTable}
+use Rattle.model.specs.Table.{Reading, read, stopped, lines, firstLine, layoutFrame, jobFrame, soloFrame, frameOf, frameVerdict, withJob, extended, isEnd, readLines, readTable}
 use Rattle.model.specs.declared.TableRead.{TableRead}
 use Rattle.model.specs.Table as Format
 use Rattle.model.specs.declared.TableRead.the-variants as table-read
 use Rattle.settle.specs.Spanned.{Spanned}
-use Rattle.frame.specs.Answer.{firstLine, width}
+use Rattle.frame.specs.Lines.{width}
 use Rattle.table.specs.declared.LayoutStep.{LayoutStep}
 use Rattle.table.specs.declared.LayoutsRead.{LayoutsRead}
 use Rattle.table.specs.declared.Step.{Step}

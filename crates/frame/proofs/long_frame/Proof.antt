@@ -4,8 +4,7 @@ use mathlib.Core.Path.{_≡_}
 use native.Mathlib.Omega.{arith}
 use borrow.Author.Tests.{ne-eqb}
 use borrow.Author.Needs.{needs}
-use Rattle.model.specs.Table.{frameOf}
-use Rattle.frame.specs.Answer.{firstLine}
+use Rattle.model.specs.Table.{firstLine, frameOf}
 use Rattle.frame.specs.Lines.{longFrame}
 use Rattle.frame.proofs.Frames.{ends-within, first-wrong, second-wrong, long-right}
 use Rattle.frame.proofs.long_frame.Statement.{statement}
