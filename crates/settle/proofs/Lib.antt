@@ -1,5 +1,6 @@
 pub mod Laws
 pub mod Stamps
+pub mod Copies
 pub mod Links
 pub mod Depths
 pub mod Walk

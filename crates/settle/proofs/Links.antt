@@ -1,20 +1,19 @@
 -- Laws of the links between children: what one turn of linking adds.
 -- Assumes nothing.
-use Prim.Native.Nat.{ℕ, zero, suc, _+_, _-_, _<_, _≤_}
+use Prim.Native.Nat.{ℕ, zero, suc, _-_, _<_, _≤_}
 use mathlib.Core.Path.{_≡_, refl, sym, ap, _∙_}
-use mathlib.Core.Bool.{Bool, true, false, cond}
+use mathlib.Core.Bool.{cond}
 use mathlib.Core.List.{List, [], _∷_, headD}
-use native.Mathlib.Nat.{sub-self}
 use native.Mathlib.Omega.{arith}
 use native.Mathlib.Decide.{ℕ-discrete}
 use lib.ListN.{length, getD, set, length-set}
-use lib.Seq.{getD-set-same, getD-set-other, ext-getD}
-use lib.Dec.{eqb, ltb}
+use lib.Seq.{getD-set-same, getD-set-other}
+use lib.Dec.{eqb}
 use borrow.Author.Tests.{eq-eqb, ne-eqb}
 use Rattle.model.specs.Lists.{numbersFrom, select}
-use Rattle.model.specs.Tree.{FFFF, layoutLimit}
+use Rattle.model.specs.Tree.{FFFF}
 use Rattle.tree.specs.WellFormed.{Tree}
-use Rattle.settle.specs.Numbering.{isChild, childrenFrom, Unlinked, Linked}
+use Rattle.settle.specs.Numbering.{childrenFrom, Unlinked, Linked}
 
 -- inside the list it does not matter what stands past its end
 pub getD-inside : (ps : List ℕ) (k d e : ℕ) → k < length ps → getD ps k d ≡ getD ps k e

@@ -1,23 +1,23 @@
 -- Laws of the verdict of settling, ground by ground, and of its outcome.
 -- Assumes nothing.
-use Prim.Native.Nat.{ℕ, zero, suc, _<_, _≤_}
-use mathlib.Core.Path.{_≡_, refl, sym, ap, _∙_}
-use mathlib.Core.Bool.{true, false, and-true}
-use mathlib.Core.List.{List, [], _∷_, _++_, map}
+use Prim.Native.Nat.{ℕ, _<_, _≤_}
+use mathlib.Core.Path.{_≡_, refl, sym, _∙_}
+use mathlib.Core.Bool.{and-true}
+use mathlib.Core.List.{List, [], _∷_}
 use native.Mathlib.Omega.{arith}
 use lib.ListN.{length, getD, replicate, length-replicate, getD-replicate}
 use lib.Dec.{ltb}
 use borrow.Author.Tests.{lt-ltb, le-ltb}
-use Rattle.model.specs.Verdict.{Verdict, accepted, refused, refuseIf, _then_, Answer, gives, refuses}
-use Rattle.model.specs.Tree.{FFFF, layoutLimit, layoutsFrom, treeVerdict, settleVerdict, depth, above, firstLeaf, lastLeaf}
+use Rattle.model.specs.Verdict.{Verdict, accepted, refused, refuseIf, _then_, gives, refuses}
+use Rattle.model.specs.Tree.{FFFF, layoutLimit, layoutsFrom, treeVerdict, settleVerdict, depth, firstLeaf, lastLeaf}
 use Rattle.model.specs.Answers.{settledAnswer}
 use Rattle.model.specs.Outcomes.{SettledAs}
 use Rattle.model.specs.declared.Settled.{Settled}
-use Rattle.tree.specs.WellFormed.{Tree, well-formed}
+use Rattle.tree.specs.WellFormed.{Tree}
 use Rattle.tree.specs.Chain.{true-above, above-root}
 use Rattle.tree.specs.Leaves.{first-root}
 use Rattle.settle.specs.Numbering.{FirstWrong, Unlinked, Linked, Stamped, atOrBelow, Numberable, Numbered}
-use Rattle.settle.proofs.Stamps.{stamped-as, stamped-all}
+use Rattle.settle.proofs.Stamps.{stamped-as, stamped-copied, stamped-all}
 
 -- a list with a layout is judged layout by layout
 tree-layouts : (ps : List ℕ) → ((length ps ≡ 0) → ⊥) → treeVerdict ps ≡ layoutsFrom 0 ps
@@ -85,16 +85,19 @@ module _ (ps depths firsts lasts : List ℕ) (r : Settled) where
         lasts-hold = rw e (stamped-all (length ps) (lastLeaf ps) lasts lasts′ l-room l-same l);
       }
 
--- what is written at and below layout 0 is written at every layout
-module _ (ps firsts lasts : List ℕ) (r : ℕ) (firsts′ lasts′ : List ℕ) (t : Tree ps) (n : Numbered ps (atOrBelow ps 0) 0 firsts lasts r firsts′ lasts′) where
+-- what is numbered at and below layout 0, and copied, is written at every layout
+module _ (ps firsts lasts : List ℕ) (r : ℕ) (firsts′ lasts′ : List ℕ) (t : Tree ps) (n : Numbered ps (atOrBelow ps 0) 0 firsts lasts r firsts′ lasts′) (old new : List ℕ) where
   every : (y : ℕ) → atOrBelow ps 0 y ≡ ltb y (length ps)
   every y = rw (true-above ps t (above-root ps t y)) (and-true (ltb y (length ps)))
 
-  pub firsts-everywhere : Stamped (λ (y : ℕ). ltb y (length ps)) (firstLeaf ps) firsts firsts′
-  firsts-everywhere = stamped-as (atOrBelow ps 0) (λ (y : ℕ). ltb y (length ps)) (firstLeaf ps) firsts firsts′ every (n .firsts-hold)
+  copied : (f : ℕ → ℕ) (a b : List ℕ) → Stamped (atOrBelow ps 0) f a b → Stamped (λ (y : ℕ). ltb y (length ps)) (λ (y : ℕ). getD b y 0) old new → Stamped (λ (y : ℕ). ltb y (length ps)) f old new
+  copied f a b s = stamped-copied (λ (y : ℕ). ltb y (length ps)) f a b old new (stamped-as (atOrBelow ps 0) (λ (y : ℕ). ltb y (length ps)) f a b every s)
 
-  pub lasts-everywhere : Stamped (λ (y : ℕ). ltb y (length ps)) (lastLeaf ps) lasts lasts′
-  lasts-everywhere = stamped-as (atOrBelow ps 0) (λ (y : ℕ). ltb y (length ps)) (lastLeaf ps) lasts lasts′ every (n .lasts-hold)
+  pub firsts-copied : Stamped (λ (y : ℕ). ltb y (length ps)) (λ (y : ℕ). getD firsts′ y 0) old new → Stamped (λ (y : ℕ). ltb y (length ps)) (firstLeaf ps) old new
+  firsts-copied = copied (firstLeaf ps) firsts firsts′ (n .firsts-hold)
+
+  pub lasts-copied : Stamped (λ (y : ℕ). ltb y (length ps)) (λ (y : ℕ). getD lasts′ y 0) old new → Stamped (λ (y : ℕ). ltb y (length ps)) (lastLeaf ps) old new
+  lasts-copied = copied (lastLeaf ps) lasts lasts′ (n .lasts-hold)
 
 -- fresh links
 pub unlinked : (ps : List ℕ) (n : ℕ) → length ps ≤ n → Unlinked ps (replicate n FFFF) (replicate n FFFF)
@@ -105,7 +108,7 @@ unlinked ps n h =
       empty = λ x inside. getD-replicate n x FFFF 0 (omega arith);
     }
 
--- numbering begins at layout 0
-pub root-numberable : (ps child sibling firsts lasts : List ℕ) → Tree ps → Linked ps child sibling → length ps ≤ length child → length ps ≤ length sibling → length ps ≤ length firsts → length ps ≤ length lasts → Numberable ps child sibling 0 0 firsts lasts
-root-numberable ps child sibling firsts lasts t links c s f l =
-    record { tree = t; links = links; child-room = c; sibling-room = s; firsts-room = f; lasts-room = l; known = t .nonempty; start = sym (first-root ps t) }
+-- numbering begins at layout 0, in fresh cells
+pub root-numberable : (ps child sibling : List ℕ) (n : ℕ) → Tree ps → Linked ps child sibling → length ps ≤ n → Numberable ps child sibling 0 0 (replicate n 0) (replicate n 0)
+root-numberable ps child sibling n t links h =
+    record { tree = t; links = links; firsts-room = rw length-replicate h; lasts-room = rw length-replicate h; known = t .nonempty; start = sym (first-root ps t) }

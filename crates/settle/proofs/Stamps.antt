@@ -1,12 +1,12 @@
 -- Laws of cells written one by one: what a store adds, how two writings join, and what a whole writing leaves.
 -- Assumes nothing.
-use Prim.Native.Nat.{ℕ, zero, suc, _+_, _-_, _<_, _≤_}
+use Prim.Native.Nat.{ℕ, _+_, _-_, _<_, _≤_}
 use mathlib.Core.Path.{_≡_, refl, sym, ap, _∙_}
-use mathlib.Core.Bool.{Bool, true, false, cond, not, _||_, _&&_}
-use mathlib.Core.List.{List, [], _∷_, _++_, map}
+use mathlib.Core.Bool.{Bool, true, false, cond, _||_}
+use mathlib.Core.List.{List, _++_, map}
 use native.Mathlib.Omega.{arith}
 use native.Mathlib.Decide.{ℕ-discrete, decLt}
-use lib.ListN.{length, getD, set, drop, length-set, length-append, length-map, length-drop}
+use lib.ListN.{length, getD, set, drop, length-append, length-map, length-drop}
 use lib.Seq.{getD-set-same, getD-set-other, ext-getD, getD-append-add, getD-drop}
 use lib.Dec.{eqb, ltb}
 use borrow.Author.Tests.{lt-ltb, le-ltb, eq-eqb, ne-eqb}
@@ -34,6 +34,14 @@ joined false false a b = refl
 -- one writing after another
 pub stamped-then : (p q : ℕ → Bool) (f : ℕ → ℕ) (a b c : List ℕ) → Stamped p f a b → Stamped q f b c → Stamped (λ (y : ℕ). p y || q y) f a c
 stamped-then p q f a b c s t y = t y ∙ rw (s y) (joined (p y) (q y) (f y) (getD a y 0))
+
+taken : (p : Bool) (a b c : ℕ) → cond p (cond p a b) c ≡ cond p a c
+taken true a b c = refl
+taken false a b c = refl
+
+-- a writing copied to other cells
+pub stamped-copied : (p : ℕ → Bool) (f : ℕ → ℕ) (a b c d : List ℕ) → Stamped p f a b → Stamped p (λ (y : ℕ). getD b y 0) c d → Stamped p f c d
+stamped-copied p f a b c d s t y = t y ∙ rw (s y) (taken (p y) (f y) (getD a y 0) (getD c y 0))
 
 -- one cell more
 pub one-more : (x y : ℕ) → (eqb y x || ltb y x) ≡ ltb y (x + 1)

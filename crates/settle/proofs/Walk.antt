@@ -10,14 +10,14 @@ use native.Mathlib.Omega.{arith}
 use native.Mathlib.Decide.{ℕ-discrete, decLt}
 use lib.ListN.{length, getD, set, length-set, length-append}
 use lib.Dec.{eqb, ltb}
-use borrow.Author.Tests.{lt-ltb, le-ltb, eq-eqb, ne-eqb, eqb-true, eqb-false, ltb-true}
+use borrow.Author.Tests.{lt-ltb, le-ltb, eq-eqb, ne-eqb, eqb-false}
 use Rattle.model.specs.Lists.{numbers, numbersFrom, any, select}
-use Rattle.model.specs.Tree.{FFFF, above, children, orSelf, leaves, firstLeaf, lastLeaf}
+use Rattle.model.specs.Tree.{FFFF, above, children, leaves, firstLeaf, lastLeaf}
 use Rattle.tree.specs.WellFormed.{Tree}
 use Rattle.tree.specs.Lists.{answers}
 use Rattle.tree.specs.Chain.{Above, above-true, true-above, above-le, above-refl}
 use Rattle.tree.specs.Children.{child-parent, child-greater, rest-greater, above-child, child-above}
-use Rattle.tree.specs.Leaves.{leaves-nonempty, leaves-step, leaves-of-leaf, leaves-of-children, first-of-child, last-is, last-lt}
+use Rattle.tree.specs.Leaves.{leaves-nonempty, leaves-of-leaf, leaves-of-children, first-of-child, last-is, last-lt}
 use Rattle.settle.specs.Numbering.{isChild, childrenFrom, Linked, Stamped, atOrBelow, strictlyBelow, Numberable, Numbered}
 use Rattle.settle.proofs.Stamps.{stamped-as, stamped-set, stamped-then}
 
@@ -209,8 +209,8 @@ module _ (ps : List ℕ) (t : Tree ps) (x : ℕ) (known : x < length ps) where
       }
 
   -- a child more: what numbering it did comes after what was done
-  pub one-done : (child sibling firsts₀ lasts₀ firsts lasts : List ℕ) (c after : ℕ) (d : ChildrenDone ps x firsts₀ lasts₀ firsts lasts c after) → ((c ≡ FFFF) → ⊥) → Linked ps child sibling → (r : ℕ) (firsts′ lasts′ : List ℕ) → length firsts′ ≡ length firsts → length lasts′ ≡ length lasts → Numbered ps (atOrBelow ps c) c firsts lasts r firsts′ lasts′ → ChildrenDone ps x firsts₀ lasts₀ firsts′ lasts′ (getD sibling c 0) r
-  one-done child sibling firsts₀ lasts₀ firsts lasts c after d other links r firsts′ lasts′ same-f same-l n =
+  pub one-done : (child sibling firsts₀ lasts₀ firsts lasts : List ℕ) (c after : ℕ) (d : ChildrenDone ps x firsts₀ lasts₀ firsts lasts c after) → ((c ≡ FFFF) → ⊥) → Linked ps child sibling → (r : ℕ) (firsts′ lasts′ : List ℕ) → Numbered ps (atOrBelow ps c) c firsts lasts r firsts′ lasts′ → ChildrenDone ps x firsts₀ lasts₀ firsts′ lasts′ (getD sibling c 0) r
+  one-done child sibling firsts₀ lasts₀ firsts lasts c after d other links r firsts′ lasts′ n =
       let h : Current (d .done) c (d .rest) after = current-child firsts₀ lasts₀ firsts lasts c after d other in
       record {
         done = d .done ++ c ∷ [];
@@ -218,8 +218,8 @@ module _ (ps : List ℕ) (t : Tree ps) (x : ℕ) (known : x < length ps) where
         split = h .split ∙ sym (append-assoc (d .done) (c ∷ []) (h .tail));
         current = links .sibling-at c (h .positive) (h .inside) ∙ rw (h .parent, children-after ps x (d .done) c (h .tail) (h .split));
         next-leaf = n .after ∙ rw (← (h .start), d .next-leaf, flatMap-snoc (leaves ps) (d .done) c, length-append (flatMap (leaves ps) (d .done)) (leaves ps c)) (omega arith);
-        firsts-same = same-f ∙ d .firsts-same;
-        lasts-same = same-l ∙ d .lasts-same;
+        firsts-same = n .firsts-same ∙ d .firsts-same;
+        lasts-same = n .lasts-same ∙ d .lasts-same;
         firsts-hold = stamped-as (λ (y : ℕ). under ps (d .done) y || atOrBelow ps c y) (under ps (d .done ++ c ∷ [])) (firstLeaf ps) firsts₀ firsts′ (under-more ps (d .done) c)
             (stamped-then (under ps (d .done)) (atOrBelow ps c) (firstLeaf ps) firsts₀ firsts firsts′ (d .firsts-hold) (n .firsts-hold));
         lasts-hold = stamped-as (λ (y : ℕ). under ps (d .done) y || atOrBelow ps c y) (under ps (d .done ++ c ∷ [])) (lastLeaf ps) lasts₀ lasts′ (under-more ps (d .done) c)
@@ -242,6 +242,8 @@ module _ (ps : List ℕ) (t : Tree ps) (x : ℕ) (known : x < length ps) where
       let whole : d .done ≡ children ps x = sym (append-nil (d .done)) ∙ ap (λ (l : List ℕ). d .done ++ l) (sym none) ∙ sym (d .split) in
       record {
         after = d .next-leaf ∙ rw (whole, leaves-of-children ps t x known some);
+        firsts-same = d .firsts-same;
+        lasts-same = d .lasts-same;
         firsts-hold = stamped-as (under ps (d .done)) (strictlyBelow ps x) (firstLeaf ps) firsts₀ firsts (λ y. ap (λ (l : List ℕ). under ps l y) whole ∙ under-all ps t x known y) (d .firsts-hold);
         lasts-hold = stamped-as (under ps (d .done)) (strictlyBelow ps x) (lastLeaf ps) lasts₀ lasts (λ y. ap (λ (l : List ℕ). under ps l y) whole ∙ under-all ps t x known y) (d .lasts-hold);
       }
@@ -264,6 +266,8 @@ module _ (ps child sibling : List ℕ) (x next : ℕ) (firsts lasts : List ℕ) 
       let below : (y : ℕ) → under ps [] y ≡ strictlyBelow ps x y = λ y. ap (λ (l : List ℕ). under ps l y) (sym none) ∙ under-all ps (n .tree) x (n .known) y in
       record {
         after = rw (n .start, leaves-of-leaf ps (n .tree) x (n .known) none);
+        firsts-same = refl;
+        lasts-same = refl;
         firsts-hold = stamped-as (under ps []) (strictlyBelow ps x) (firstLeaf ps) firsts firsts below (nothing-under ps (firstLeaf ps) firsts);
         lasts-hold = stamped-as (under ps []) (strictlyBelow ps x) (lastLeaf ps) lasts lasts below (nothing-under ps (lastLeaf ps) lasts);
       }
@@ -276,32 +280,21 @@ module _ (ps child sibling : List ℕ) (x next : ℕ) (firsts lasts : List ℕ) 
       go [] e = absurd (other (first-child ∙ rw e))
       go (d ∷ l) e = rw e (omega arith)
 
-  -- what numbering a layout passes on to numbering its children
-  pub children-numberable : Numberable ps child sibling x next (set firsts x next) lasts
-  children-numberable =
-      record {
-        tree = n .tree;
-        links = n .links;
-        child-room = n .child-room;
-        sibling-room = n .sibling-room;
-        firsts-room = rw length-set (n .firsts-room);
-        lasts-room = n .lasts-room;
-        known = n .known;
-        start = n .start;
-      }
+  own-cell : (f : ℕ → ℕ) (old new : List ℕ) (v : ℕ) → x < length new → v ≡ f x → Stamped (strictlyBelow ps x) f old new → Stamped (atOrBelow ps x) f old (set new x v)
+  own-cell f old new v room e s =
+      stamped-as (λ (y : ℕ). eqb y x || strictlyBelow ps x y) (atOrBelow ps x) f old (set new x v) (below-or-self ps (n .tree) x (n .known))
+      (stamped-set (strictlyBelow ps x) f old new x v room e s)
 
   -- a layout's own cells, beside those of all below it
-  pub self-numbered : (r : ℕ) (firsts′ lasts′ : List ℕ) → length lasts′ ≡ length lasts → Numbered ps (strictlyBelow ps x) x (set firsts x next) lasts r firsts′ lasts′ → Numbered ps (atOrBelow ps x) x firsts lasts r firsts′ (set lasts′ x (r - 1))
-  self-numbered r firsts′ lasts′ same b =
+  pub self-numbered : (r : ℕ) (firsts′ lasts′ : List ℕ) → Numbered ps (strictlyBelow ps x) x firsts lasts r firsts′ lasts′ → Numbered ps (atOrBelow ps x) x firsts lasts r (set firsts′ x next) (set lasts′ x (r - 1))
+  self-numbered r firsts′ lasts′ b =
       let last : r - 1 ≡ lastLeaf ps x = omega (arith, b .after, last-is ps (n .tree) x (n .known)) in
-      let own : Stamped (λ (y : ℕ). eqb y x || false) (firstLeaf ps) firsts (set firsts x next) = stamped-set (λ (y : ℕ). false) (firstLeaf ps) firsts firsts x next (omega (arith, n .firsts-room, n .known)) (n .start) (λ y. refl) in
       record {
         after = b .after;
-        firsts-hold = stamped-as (λ (y : ℕ). (eqb y x || false) || strictlyBelow ps x y) (atOrBelow ps x) (firstLeaf ps) firsts firsts′
-            (λ y. ap (λ (p : Bool). p || strictlyBelow ps x y) (or-false (eqb y x)) ∙ below-or-self ps (n .tree) x (n .known) y)
-            (stamped-then (λ (y : ℕ). eqb y x || false) (strictlyBelow ps x) (firstLeaf ps) firsts (set firsts x next) firsts′ own (b .firsts-hold));
-        lasts-hold = stamped-as (λ (y : ℕ). eqb y x || strictlyBelow ps x y) (atOrBelow ps x) (lastLeaf ps) lasts (set lasts′ x (r - 1)) (below-or-self ps (n .tree) x (n .known))
-            (stamped-set (strictlyBelow ps x) (lastLeaf ps) lasts lasts′ x (r - 1) (omega (arith, n .lasts-room, n .known)) last (b .lasts-hold));
+        firsts-same = length-set firsts′ x next ∙ b .firsts-same;
+        lasts-same = length-set lasts′ x (r - 1) ∙ b .lasts-same;
+        firsts-hold = own-cell (firstLeaf ps) firsts firsts′ next (omega (arith, n .firsts-room, n .known, b .firsts-same)) (n .start) (b .firsts-hold);
+        lasts-hold = own-cell (lastLeaf ps) lasts lasts′ (r - 1) (omega (arith, n .lasts-room, n .known, b .lasts-same)) last (b .lasts-hold);
       }
 
   -- what numbering the children passes on to numbering the current one
@@ -311,8 +304,6 @@ module _ (ps child sibling : List ℕ) (x next : ℕ) (firsts lasts : List ℕ) 
       record {
         tree = n .tree;
         links = n .links;
-        child-room = n .child-room;
-        sibling-room = n .sibling-room;
         firsts-room = omega (arith, n .firsts-room, d .firsts-same);
         lasts-room = omega (arith, n .lasts-room, d .lasts-same);
         known = h .inside;

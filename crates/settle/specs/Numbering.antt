@@ -51,8 +51,6 @@ pub record Unlinked (ps child sibling : List ℕ) : Type 0 where
 pub record Numberable (ps child sibling : List ℕ) (x next : ℕ) (firsts lasts : List ℕ) : Type 0 where
   pub tree : Tree ps
   pub links : Linked ps child sibling
-  pub child-room : length ps ≤ length child
-  pub sibling-room : length ps ≤ length sibling
   pub firsts-room : length ps ≤ length firsts
   pub lasts-room : length ps ≤ length lasts
   pub known : x < length ps
@@ -61,5 +59,16 @@ pub record Numberable (ps child sibling : List ℕ) (x next : ℕ) (firsts lasts
 -- first and last leaf of the layouts that pass the test are written, and r is the number after the last leaf of x
 pub record Numbered (ps : List ℕ) (p : ℕ → Bool) (x : ℕ) (firsts lasts : List ℕ) (r : ℕ) (firsts′ lasts′ : List ℕ) : Type 0 where
   pub after : r ≡ firstLeaf ps x + length (leaves ps x)
+  pub firsts-same : length firsts′ ≡ length firsts
+  pub lasts-same : length lasts′ ≡ length lasts
   pub firsts-hold : Stamped p (firstLeaf ps) firsts firsts′
   pub lasts-hold : Stamped p (lastLeaf ps) lasts lasts′
+
+-- the links are those of some tree, which no code holds
+abbrev pub SomeNumberable : List ℕ → List ℕ → ℕ → ℕ → List ℕ → List ℕ → Type 0
+SomeNumberable child sibling x next firsts lasts = (ps : List ℕ) × Numberable ps child sibling x next firsts lasts
+
+-- whichever tree the links are of, its layouts that pass the test of x are numbered
+abbrev pub EachNumbered : (List ℕ → ℕ → ℕ → Bool) → List ℕ → List ℕ → ℕ → ℕ → List ℕ → List ℕ → ℕ → List ℕ → List ℕ → Type 0
+EachNumbered p child sibling x next firsts lasts r firsts′ lasts′ =
+    (ps : List ℕ) → Numberable ps child sibling x next firsts lasts → Numbered ps (p ps x) x firsts lasts r firsts′ lasts′

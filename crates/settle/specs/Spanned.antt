@@ -1,16 +1,16 @@
 -- A tree whose layouts are settled: depth, first leaf and last leaf of each stand in three lists.
 -- Assumes nothing.
 use Prim.Native.Nat.{ℕ, _<_, _≤_}
-use mathlib.Core.Path.{_≡_, refl, sym, ap, _∙_, subst}
+use mathlib.Core.Path.{_≡_, refl, sym, _∙_}
 use mathlib.Core.Bool.{false, _&&_}
-use mathlib.Core.List.{List, [], _++_, map}
+use mathlib.Core.List.{List, _++_, map}
 use native.Mathlib.Omega.{arith}
 use lib.ListN.{length, getD, drop, length-map, length-append, List·getD-append}
 use lib.Dec.{leb}
 use borrow.Author.Tests.{le-leb, lt-leb}
 use Rattle.model.specs.Lists.{numbers}
-use Rattle.model.specs.Verdict.{Verdict, accepted}
-use Rattle.model.specs.Tree.{depth, firstLeaf, lastLeaf, above, layoutLimit}
+use Rattle.model.specs.Verdict.{accepted}
+use Rattle.model.specs.Tree.{depth, firstLeaf, lastLeaf, above}
 use Rattle.model.specs.Outcomes.{SettledAs}
 use Rattle.model.specs.declared.Settled.{Settled}
 use Rattle.tree.specs.WellFormed.{Tree}

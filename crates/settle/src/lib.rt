@@ -8,12 +8,12 @@ ghost use Prim.Native.Nat.{ℕ, _+_, _<_, _≤_};
 ghost use lib.ListN.{length, getD};
 ghost use lib.Dec.{ltb};
 ghost use Rattle.model.specs.Verdict.{refuses};
-ghost use Rattle.model.specs.Tree.{rightParent, depth, above};
+ghost use Rattle.model.specs.Tree.{layoutLimit, rightParent, depth, above, firstLeaf, lastLeaf};
 ghost use Rattle.model.specs.Answers.{settledAnswer};
 ghost use Rattle.model.specs.Outcomes.{SettleOutcome};
 ghost use Rattle.tree.specs.WellFormed.{Tree};
 ghost use Rattle.settle.specs.Spanned.{Spanned};
-ghost use Rattle.settle.specs.Numbering.{FirstWrong, Unlinked, Linked, Stamped, Numberable, Numbered, atOrBelow, strictlyBelow};
+ghost use Rattle.settle.specs.Numbering.{FirstWrong, Unlinked, Linked, Stamped, SomeNumberable, EachNumbered, atOrBelow, strictlyBelow};
 
 // Whether p can be the parent of layout x: FFFF for layout 0, else a smaller number.
 fn right_parent(x: usize, p: u16) -> bool
@@ -70,37 +70,37 @@ fn link_children(parents: &[u16], child: &mut [u16], sibling: &mut [u16])
 }
 
 // Numbers the leaves of x and of all below it from `next` on, and answers the number after its last.
+// Calls go as deep as the tree, so they are kept light: the tree is in the contract alone, and an array is lent as one word.
+// Links are read before leaves are written: a load right after a store to the same cell of another array may wait for it (4 KiB aliasing).
 fn number(
-    parents: &[u16],
-    child: &[u16],
-    sibling: &[u16],
+    child: &[u16; LayoutNumber::LIMIT],
+    sibling: &[u16; LayoutNumber::LIMIT],
     x: LayoutNumber,
     next: u16,
-    firsts: &mut [u16],
-    lasts: &mut [u16],
+    firsts: &mut [u16; LayoutNumber::LIMIT],
+    lasts: &mut [u16; LayoutNumber::LIMIT],
 ) -> u16
-    requires { ⌜ Numberable (now parents) (now child) (now sibling) (x .0) next (now firsts) (now lasts) ⌝ }
-    ensures { λ r. ⌜ Numbered (now (parents .entry)) (atOrBelow (now (parents .entry)) (x .0)) (x .0) (now (firsts .entry)) (now (lasts .entry)) r (now (firsts .exit)) (now (lasts .exit)) ⌝ }
+    requires { ⌜ SomeNumberable (now child) (now sibling) (x .0) next (now firsts) (now lasts) ⌝ }
+    ensures { λ r. ⌜ EachNumbered atOrBelow (now (child .entry)) (now (sibling .entry)) (x .0) next (now (firsts .entry)) (now (lasts .entry)) r (now (firsts .exit)) (now (lasts .exit)) ⌝ }
 {
     let at = x.0 as usize;
+    let after = number_children(child, sibling, x, next, firsts, lasts);
     firsts[at] = next;
-    let after = number_children(parents, child, sibling, x, next, firsts, lasts);
     lasts[at] = after - 1;
     after
 }
 
 // The same for all below x: its children's leaves, child by child; a layout with no children is a leaf.
 fn number_children(
-    parents: &[u16],
-    child: &[u16],
-    sibling: &[u16],
+    child: &[u16; LayoutNumber::LIMIT],
+    sibling: &[u16; LayoutNumber::LIMIT],
     x: LayoutNumber,
     next: u16,
-    firsts: &mut [u16],
-    lasts: &mut [u16],
+    firsts: &mut [u16; LayoutNumber::LIMIT],
+    lasts: &mut [u16; LayoutNumber::LIMIT],
 ) -> u16
-    requires { ⌜ Numberable (now parents) (now child) (now sibling) (x .0) next (now firsts) (now lasts) ⌝ }
-    ensures { λ r. ⌜ Numbered (now (parents .entry)) (strictlyBelow (now (parents .entry)) (x .0)) (x .0) (now (firsts .entry)) (now (lasts .entry)) r (now (firsts .exit)) (now (lasts .exit)) ⌝ }
+    requires { ⌜ SomeNumberable (now child) (now sibling) (x .0) next (now firsts) (now lasts) ⌝ }
+    ensures { λ r. ⌜ EachNumbered strictlyBelow (now (child .entry)) (now (sibling .entry)) (x .0) next (now (firsts .entry)) (now (lasts .entry)) r (now (firsts .exit)) (now (lasts .exit)) ⌝ }
 {
     let at = x.0 as usize;
     let mut c = child[at];
@@ -109,19 +109,43 @@ fn number_children(
     }
     let mut after = next;
     while c != model::ABSENT {
-        after = number(
-            parents,
-            child,
-            sibling,
-            LayoutNumber(c),
-            after,
-            firsts,
-            lasts,
-        );
         let here = c as usize;
-        c = sibling[here];
+        let following = sibling[here];
+        after = number(child, sibling, LayoutNumber(c), after, firsts, lasts);
+        c = following;
     }
     after
+}
+
+// Copies the first `count` cells, and leaves those after them as they were.
+fn copy_cells(cells: &[u16; LayoutNumber::LIMIT], count: usize, results: &mut [u16])
+    requires { ⌜ count ≤ layoutLimit ⌝ }
+    requires { ⌜ count ≤ length (now results) ⌝ }
+    ensures { λ r. ⌜ Stamped (λ (y : ℕ). ltb y count) (λ (y : ℕ). getD (now (cells .entry)) y 0) (now (results .entry)) (now (results .exit)) ⌝ }
+{
+    let mut x = 0;
+    while x < count {
+        results[x] = cells[x];
+        x += 1;
+    }
+}
+
+// Sets the first and the last leaf of each layout: numbered in arrays, then copied to the results.
+fn set_leaves(parents: &[u16], firsts: &mut [u16], lasts: &mut [u16])
+    requires { ⌜ Tree (now parents) ⌝ }
+    requires { ⌜ length (now parents) ≤ length (now firsts) ⌝ }
+    requires { ⌜ length (now parents) ≤ length (now lasts) ⌝ }
+    ensures { λ r. ⌜ Stamped (λ (y : ℕ). ltb y (length (now (parents .entry)))) (firstLeaf (now (parents .entry))) (now (firsts .entry)) (now (firsts .exit)) ⌝ }
+    ensures { λ r. ⌜ Stamped (λ (y : ℕ). ltb y (length (now (parents .entry)))) (lastLeaf (now (parents .entry))) (now (lasts .entry)) (now (lasts .exit)) ⌝ }
+{
+    let mut child = [model::ABSENT; LayoutNumber::LIMIT];
+    let mut sibling = [model::ABSENT; LayoutNumber::LIMIT];
+    link_children(parents, &mut child, &mut sibling);
+    let mut first = [0; LayoutNumber::LIMIT];
+    let mut last = [0; LayoutNumber::LIMIT];
+    number(&child, &sibling, LayoutNumber(0), 0, &mut first, &mut last);
+    copy_cells(&first, parents.len(), firsts);
+    copy_cells(&last, parents.len(), lasts);
 }
 
 // The refusal of a call, with nothing written.
@@ -161,10 +185,7 @@ pub fn settle_layouts(
         return refuse(4, wrong as u16);
     }
     set_depths(parents, depths);
-    let mut child = [model::ABSENT; LayoutNumber::LIMIT];
-    let mut sibling = [model::ABSENT; LayoutNumber::LIMIT];
-    link_children(parents, &mut child, &mut sibling);
-    number(parents, &child, &sibling, LayoutNumber(0), 0, firsts, lasts);
+    set_leaves(parents, firsts, lasts);
     Settled::Done
 }
 

@@ -5,9 +5,6 @@ use borrow.Author.Needs.{needs}
 use Rattle.settle.specs.Spanned.{above-left, above-right, above-inside}
 use Rattle.settle.proofs.at_or_below.Statement.{statement}
 use Rattle.settle.proofs.at_or_below.Tie as tie
-use Rattle.settle.proofs.at_or_below.Reads as reads
-use Rattle.settle.proofs.at_or_below.Lts as lts
-use Rattle.settle.proofs.cell.Reads as cell-reads
 
 -- src/lib.rt:186:9
 cell-requires : tie.Need-cell-requires

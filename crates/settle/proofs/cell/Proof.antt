@@ -1,13 +1,10 @@
 -- `settle::cell` meets its contract: inside the cells it reads one, past them the list's default stands.
 -- Assumes nothing.
-use native.Mathlib.Omega.{arith}
 use borrow.Author.Needs.{needs}
 use mathlib.Core.Path.{sym}
 use lib.ListN.{List·getD-eq-default}
 use Rattle.settle.proofs.cell.Statement.{statement}
 use Rattle.settle.proofs.cell.Tie as tie
-use Rattle.settle.proofs.cell.Reads as reads
-use Rattle.settle.proofs.cell.Lts as lts
 
 -- src/lib.rt:175:14
 cast-at : tie.Need-cast-at

@@ -8,9 +8,6 @@ use Rattle.model.specs.Tree.{layoutsFrom}
 use Rattle.settle.proofs.Laws.{layouts-right, layouts-wrong, layouts-end}
 use Rattle.settle.proofs.first_wrong.Statement.{statement}
 use Rattle.settle.proofs.first_wrong.Tie as tie
-use Rattle.settle.proofs.first_wrong.Reads as reads
-use Rattle.settle.proofs.first_wrong.Lts as lts
-use Rattle.settle.proofs.right_parent.Reads as right-parent-reads
 
 abbrev Inv-loop : tie.InvT-loop
 Inv-loop parents x₀ x = (x ≤ length parents) × (layoutsFrom 0 parents ≡ layoutsFrom x (drop x parents))

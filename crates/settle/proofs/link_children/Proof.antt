@@ -5,8 +5,6 @@ use lib.ListN.{getD}
 use Rattle.settle.proofs.Links.{LinkedFrom, linked-none, linked-more, linked-all}
 use Rattle.settle.proofs.link_children.Statement.{statement}
 use Rattle.settle.proofs.link_children.Tie as tie
-use Rattle.settle.proofs.link_children.Reads as reads
-use Rattle.settle.proofs.link_children.Lts as lts
 
 abbrev Inv-loop : tie.InvT-loop
 Inv-loop parents child₀ sibling₀ y₀ child sibling y = LinkedFrom parents y child₀ sibling₀ child sibling

@@ -1,10 +1,6 @@
-use borrow.Author.Needs.{needs}
-use native.Mathlib.Omega.{arith}
 use Rattle.settle.proofs.Laws.{right-root, right-later}
 use Rattle.settle.proofs.right_parent.Statement.{statement}
 use Rattle.settle.proofs.right_parent.Tie as tie
-use Rattle.settle.proofs.right_parent.Reads as reads
-use Rattle.settle.proofs.right_parent.Lts as lts
 
 -- src/lib.rt:16:9
 returns : tie.Need-returns

@@ -6,8 +6,6 @@ use lib.ListN.{length, getD, length-set}
 use Rattle.settle.proofs.Depths.{DepthsBelow, depths-root, parent-fits, depths-more, depths-all}
 use Rattle.settle.proofs.set_depths.Statement.{statement}
 use Rattle.settle.proofs.set_depths.Tie as tie
-use Rattle.settle.proofs.set_depths.Reads as reads
-use Rattle.settle.proofs.set_depths.Lts as lts
 
 abbrev Inv-loop : tie.InvT-loop
 Inv-loop parents depths₀ x₀ depths x = DepthsBelow parents x depths₀ depths
