@@ -19,7 +19,7 @@ use Rattle.model.specs.Jobs.{Table, jobs, jobLimit, top, bottom, jobVerdict}
 use Rattle.model.specs.Planning.{workCells, jobsVerdict, planVerdict}
 use Rattle.model.specs.Table.{Line, Frame, layoutFrame, jobFrame, soloFrame, endFrame, frameOf, lines, isEnd, outOfOrder, contentVerdict, frameVerdict, withJob, extended, Reading, read, unlessRefused, readFrame, readLines, emptyTable, readTable}
 use Rattle.tree.specs.Numbers.{numbers-mem}
-use Rattle.planner.specs.PlanVerdict.{right-tree}
+use Rattle.orders.specs.PlanVerdict.{right-tree}
 
 -- what holds of the table so far
 pub record Sound (tb : Table) : Type 0 where

@@ -46,8 +46,8 @@ fn plan_table(
     let count = tops.len();
     let mut partners = [0u16; JobNumber::LIMIT];
     let mut layouts = [0u16; JobNumber::LIMIT];
-    let mut work = [0u16; planner::WORK];
-    let totals = planner::work_out(
+    let mut work = [0u16; sweep::WORK];
+    let totals = sweep::work_out(
         parents,
         tops,
         bottoms,

@@ -9,10 +9,9 @@ use tests::reference::table::table_lines;
 use tests::reference::{JOB_LIMIT, LAYOUT_LIMIT, OUTPUT_BYTES};
 use tests::{by_hand, library, reference};
 
-const CALLS: usize = 101;
+const ROUNDS: usize = 25;
+const CALLS: usize = 9;
 const QUADRATIC_CALLS: usize = 5;
-/// A first call at least this long is not repeated.
-const LONG_CALL: Duration = Duration::from_secs(1);
 
 const SHAPES: [Shape; 4] = [Shape::Random, Shape::Chain, Shape::Star, Shape::Binary];
 const JOBS: [usize; 3] = [64, 512, JOB_LIMIT];
@@ -62,29 +61,35 @@ fn row(shape: Shape, reach: Reach, jobs: usize, output: &mut [u8]) -> Times {
     times
 }
 
-/// The same output for all, cleared by none but the runs themselves.
+/// The same output for all, cleared by none but the runs themselves. The two that are compared take
+/// turns, so that what else the machine does weighs on both.
 fn times(input: &[u8], output: &mut [u8]) -> Times {
+    let mut proved = Vec::new();
+    let mut by_hand = Vec::new();
+    for _ in 0..ROUNDS {
+        proved.extend(call_times(library::run, CALLS, input, output));
+        by_hand.extend(call_times(by_hand::run_into, CALLS, input, output));
+    }
+    let quadratic = call_times(reference::run::run_into, QUADRATIC_CALLS, input, output);
     Times {
-        proved: middle_time(library::run, CALLS, input, output),
-        by_hand: middle_time(by_hand::run_into, CALLS, input, output),
-        quadratic: middle_time(reference::run::run_into, QUADRATIC_CALLS, input, output),
+        proved: middle(proved),
+        by_hand: middle(by_hand),
+        quadratic: middle(quadratic),
     }
 }
 
-fn middle_time(runner: Runner, calls: usize, input: &[u8], output: &mut [u8]) -> Duration {
+fn call_times(runner: Runner, calls: usize, input: &[u8], output: &mut [u8]) -> Vec<Duration> {
     let mut time = || {
         let start = Instant::now();
         runner(input, output);
         start.elapsed()
     };
-    let first = time();
-    if LONG_CALL <= first {
-        return first;
-    }
-    let mut times: Vec<Duration> = (1..calls).map(|_| time()).collect();
-    times.push(first);
+    (0..calls).map(|_| time()).collect()
+}
+
+fn middle(mut times: Vec<Duration>) -> Duration {
     times.sort();
-    times[calls / 2]
+    times[times.len() / 2]
 }
 
 /// A fast run that writes something else would not be worth its time.

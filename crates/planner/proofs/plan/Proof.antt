@@ -5,7 +5,7 @@ use lib.ListN.{length}
 use Rattle.model.specs.Jobs.{tableOf}
 use Rattle.model.specs.Answers.{settledAnswer}
 use Rattle.orders.specs.Accepted.{Lent}
-use Rattle.planner.specs.PlanVerdict.{unequal-bottoms, unequal-marks, short-partners, short-layouts, short-work, many-layouts, many-jobs, wrong-tree, right-tree}
+use Rattle.orders.specs.PlanVerdict.{unequal-bottoms, unequal-marks, short-partners, short-layouts, short-work, many-layouts, many-jobs, wrong-tree, right-tree}
 use Rattle.planner.specs.Settling.{settled-wrong, settled-right, settled-spanned}
 use Rattle.planner.specs.PlanLaws.{refused-as}
 use Rattle.planner.proofs.plan.Statement.{statement}
