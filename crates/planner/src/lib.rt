@@ -7,7 +7,7 @@ use model::Planned;
 use model::Refusal;
 use model::Settled;
 use model::Totals;
-use sweep::WORK;
+use orders::WORK;
 ghost use mathlib.Core.Path.{_≡_};
 ghost use Prim.Native.Nat.{ℕ, _≤_};
 ghost use lib.ListN.{length};

@@ -46,7 +46,7 @@ fn plan_table(
     let count = tops.len();
     let mut partners = [0u16; JobNumber::LIMIT];
     let mut layouts = [0u16; JobNumber::LIMIT];
-    let mut work = [0u16; sweep::WORK];
+    let mut work = [0u16; orders::WORK];
     let totals = sweep::work_out(
         parents,
         tops,

@@ -1,14 +1,12 @@
 // A plan as lines: a line for each pass, by the running order, and the totals (document 01, "The plan").
 use crate::write;
 use model::JobNumber;
+use orders::ORDER;
 ghost use Rattle.model.specs.Jobs.{tableOf};
 ghost use Rattle.model.specs.Output.{planBytes};
 ghost use Rattle.run.specs.Writing.{Printed};
 ghost use Rattle.run.specs.Printing.{Placeable, LinePut};
 ghost use Rattle.run.specs.Whole.{PassesReady, PassesPut, PlanReady};
-
-// Where the running order stands in the work cells.
-const ORDER: usize = 4096;
 
 // The line of the job at a place, unless it was printed with an earlier one; `seen` holds the partners of jobs already printed in pairs.
 fn put_pass(

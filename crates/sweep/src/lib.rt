@@ -10,9 +10,6 @@ ghost use Rattle.model.specs.Jobs.{tableOf};
 ghost use Rattle.model.specs.Visits.{levels};
 ghost use Rattle.sweeping.specs.Steps.{Filling, WorkedOut};
 
-// Work cells that a plan needs.
-pub const WORK: usize = 32768;
-
 // The levels of a shelf for so many jobs: the smallest power of two that holds them.
 fn levels_of(count: usize) -> usize
     requires { ⌜ count ≤ 4096 ⌝ }
@@ -58,7 +55,7 @@ pub fn work_out(
         &mut ends,
     );
     let levels = levels_of(tops.len());
-    shelf::clear(&mut work[turns::SHELF..], levels);
+    shelf::clear(&mut work[orders::SHELF..], levels);
     cells::fill(partners, model::ABSENT);
     cells::fill(layouts, model::ABSENT);
     let tally = turns::sweep(

@@ -6,20 +6,15 @@ use cells::index;
 use cells::mark;
 use model::LayoutNumber;
 use model::Rank;
+use orders::ORDER;
+use orders::REACH;
+use orders::SHELF;
+use orders::SLOTS;
 ghost use mathlib.Core.Path.{_≡_};
 ghost use Prim.Native.Nat.{ℕ, _+_, _<_, _≤_};
 ghost use lib.ListN.{length, getD, set};
 ghost use Rattle.model.specs.Jobs.{tableOf};
 ghost use Rattle.sweeping.specs.Steps.{Reaching, Deep, Reached, startOf, Choosing, Chose, Joining, Joined, Offering, Sweeping};
-
-// Where the running order, the slots by place, the places by reach and the shelf stand in the work cells.
-pub const ORDER: usize = 4096;
-
-pub const SLOTS: usize = 8192;
-
-pub const REACH: usize = 12288;
-
-pub const SHELF: usize = 16384;
 
 // Reaches one bottom more: its place goes on the shelf, unless its job is behind the sweep at place i, has a partner or is solo.
 fn shelve(
