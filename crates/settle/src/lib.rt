@@ -16,13 +16,13 @@ ghost use Rattle.settle.specs.Spanned.{Spanned};
 ghost use Rattle.settle.specs.Numbering.{FirstWrong, Unlinked, Linked, Stamped, SomeNumberable, EachNumbered, atOrBelow, strictlyBelow};
 
 // Whether p can be the parent of layout x: FFFF for layout 0, else a smaller number.
-fn right_parent(x: usize, p: u16) -> bool
-    ensures { λ r. ⌜ r ≡ rightParent x p ⌝ }
+pub fn right_parent(x: usize, p: LayoutNumber) -> bool
+    ensures { λ r. ⌜ r ≡ rightParent x (p .0) ⌝ }
 {
     if x == 0 {
-        return p == 65535;
+        return p.0 == model::ABSENT;
     }
-    (p as usize) < x
+    (p.0 as usize) < x
 }
 
 // The first layout whose parent is wrong, or how many layouts there are.
@@ -31,7 +31,8 @@ fn first_wrong(parents: &[u16]) -> usize
 {
     let mut x = 0;
     while x < parents.len() {
-        if !right_parent(x, parents[x]) {
+        let parent = parents[x];
+        if !right_parent(x, LayoutNumber(parent)) {
             return x;
         }
         x += 1;

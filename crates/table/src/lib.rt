@@ -4,7 +4,7 @@ ghost use mathlib.Core.List.{List};
 ghost use mathlib.Core.Bool.{true, false, not};
 ghost use Prim.Native.Nat.{ℕ, _+_, _≤_, _<_};
 ghost use lib.ListN.{length, replicate};
-ghost use Rattle.model.specs.Tree.{FFFF, layoutLimit, rightParent};
+ghost use Rattle.model.specs.Tree.{FFFF, layoutLimit};
 ghost use Rattle.model.specs.Jobs.{Table, jobs as jobCount, jobLimit};
 ghost use Rattle.model.specs.Table.{layoutFrame, endFrame, readTable, buffersVerdict};
 ghost use Rattle.model.specs.Verdict.{accepted, refuseIf};
@@ -52,16 +52,6 @@ fn clear(parents: &mut [u16], tops: &mut [u16], bottoms: &mut [u16], marks: &mut
     cells::clear_marks(marks);
 }
 
-// Whether p can be the parent of layout x: FFFF for layout 0, else a smaller number.
-fn right_parent(x: usize, p: LayoutNumber) -> bool
-    ensures { λ r. ⌜ r ≡ rightParent x (p .0) ⌝ }
-{
-    if x == 0 {
-        return p.0 == model::ABSENT;
-    }
-    (p.0 as usize) < x
-}
-
 // The line at `at`, which comes after `layouts` layouts and no job.
 fn next_layout(bytes: &[u8], at: usize, layouts: usize) -> LayoutStep
     requires { ⌜ layouts ≤ layoutLimit ⌝ }
@@ -80,7 +70,7 @@ fn next_layout(bytes: &[u8], at: usize, layouts: usize) -> LayoutStep
             place: line,
         });
     }
-    if right_parent(layouts, parent) {
+    if settle::right_parent(layouts, parent) {
         return LayoutStep::Layout(parent);
     }
     LayoutStep::Refused(Refusal {

@@ -1,3 +1,5 @@
+-- `settle::first_wrong` meets its contract: the layouts passed are right.
+-- Assumes nothing.
 use borrow.Author.Needs.{needs}
 use native.Mathlib.Omega.{arith}
 use Prim.Native.Nat.{_≤_, _-_}
@@ -15,23 +17,18 @@ Inv-loop parents x₀ x = (x ≤ length parents) × (layoutsFrom 0 parents ≡ l
 abbrev μ-loop : tie.MeasureT-loop
 μ-loop parents x₀ x = length parents - x
 
--- src/lib.rt:26:5
 loop-holds : tie.Need-loop-holds Inv-loop μ-loop
 loop-holds c = (search needs, refl)
 
--- src/lib.rt:27:29
-mul-right-parent : tie.Need-mul-right-parent Inv-loop μ-loop
-mul-right-parent c = search needs
+mul-parent : tie.Need-mul-parent Inv-loop μ-loop
+mul-parent c = search needs
 
--- src/lib.rt:27:29
-shared-slice-read-right-parent : tie.Need-shared-slice-read-right-parent Inv-loop μ-loop
-shared-slice-read-right-parent c = search needs
+shared-slice-read-parent : tie.Need-shared-slice-read-parent Inv-loop μ-loop
+shared-slice-read-parent c = search needs
 
--- src/lib.rt:27:13
 right-parent-requires : tie.Need-right-parent-requires Inv-loop μ-loop
 right-parent-requires c κs = search needs
 
--- src/lib.rt:28:13
 returns : tie.Need-returns Inv-loop μ-loop
 returns c =
     record {
@@ -41,15 +38,12 @@ returns c =
           ∙ layouts-wrong _ _ (c .before .before .before .loop-test .taken) (sym (c .before .right-parent .ensures) ∙ not-true _ (c .if1 .taken));
     }
 
--- src/lib.rt:30:9
 add-x : tie.Need-add-x Inv-loop μ-loop
 add-x c = search needs
 
--- src/lib.rt:26:5
 loop-less : tie.Need-loop-less Inv-loop μ-loop
 loop-less c = search needs
 
--- src/lib.rt:26:5
 loop-again : tie.Need-loop-again Inv-loop μ-loop
 loop-again c = (
   search needs,
@@ -57,7 +51,6 @@ loop-again c = (
       ∙ layouts-right _ _ (c .before .before .before .loop-test .taken) (sym (c .before .right-parent .ensures) ∙ not-false _ (c .if1 .left)),
 )
 
--- src/lib.rt:22:1
 returns-2 : tie.Need-returns-2 Inv-loop μ-loop
 returns-2 c =
     record {
@@ -72,8 +65,8 @@ first-wrong-spec =
     Inv-loop
     μ-loop
     loop-holds
-    mul-right-parent
-    shared-slice-read-right-parent
+    mul-parent
+    shared-slice-read-parent
     right-parent-requires
     returns
     add-x
