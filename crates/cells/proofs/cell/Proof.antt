@@ -6,19 +6,15 @@ use lib.ListN.{List·getD-eq-default}
 use Rattle.cells.proofs.cell.Statement.{statement}
 use Rattle.cells.proofs.cell.Tie as tie
 
--- src/cells.rt:10:16
 mul-result : tie.Need-mul-result
 mul-result c = search needs
 
--- src/cells.rt:10:16
 shared-slice-read-result : tie.Need-shared-slice-read-result
 shared-slice-read-result c = search needs
 
--- src/cells.rt:10:9
 returns : tie.Need-returns
 returns c = search needs
 
--- src/cells.rt:6:1
 returns-2 : tie.Need-returns-2
 returns-2 c = sym (List·getD-eq-default (c .before .args .cells .now) 0 (c .if1 .left))
 

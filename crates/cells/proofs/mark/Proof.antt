@@ -6,15 +6,12 @@ use lib.ListN.{List·getD-eq-default}
 use Rattle.cells.proofs.mark.Statement.{statement}
 use Rattle.cells.proofs.mark.Tie as tie
 
--- src/cells.rt:27:16
 shared-slice-read-result : tie.Need-shared-slice-read-result
 shared-slice-read-result c = search needs
 
--- src/cells.rt:27:9
 returns : tie.Need-returns
 returns c = search needs
 
--- src/cells.rt:23:1
 returns-2 : tie.Need-returns-2
 returns-2 c = sym (List·getD-eq-default (c .before .args .marks .now) 0 (c .if1 .left))
 

@@ -5,47 +5,36 @@ use Rattle.plan.specs.Within.{run-within}
 use Rattle.plan.proofs.main.Statement.{statement}
 use Rattle.plan.proofs.main.Tie as tie
 
--- src/main.rt:6:21
 large-buffer-requires : tie.Need-large-buffer-requires
 large-buffer-requires c κs = search needs
 
--- src/main.rt:7:46
 slice-aggregate-read-full : tie.Need-slice-aggregate-read-full
 slice-aggregate-read-full c = search needs
 
--- src/main.rt:7:9
 read-full-requires : tie.Need-read-full-requires
 read-full-requires c κs = search needs
 
--- src/main.rt:9:38
 array-share-prefix-table : tie.Need-array-share-prefix-table
 array-share-prefix-table c = search needs
 
--- src/main.rt:9:38
 slice-aggregate-murdzeki-plan : tie.Need-slice-aggregate-murdzeki-plan
 slice-aggregate-murdzeki-plan c = search needs
 
--- src/main.rt:9:56
 slice-aggregate-murdzeki-plan-2 : tie.Need-slice-aggregate-murdzeki-plan-2
 slice-aggregate-murdzeki-plan-2 c = search needs
 
--- src/main.rt:9:9
 murdzeki-plan-requires : tie.Need-murdzeki-plan-requires
 murdzeki-plan-requires c κs = search needs
 
--- src/main.rt:10:34
 array-share-prefix-plan : tie.Need-array-share-prefix-plan
 array-share-prefix-plan c = run-within _ _ _ _ (c .before .murdzeki-plan .ensures)
 
--- src/main.rt:10:34
 slice-aggregate-write-all : tie.Need-slice-aggregate-write-all
 slice-aggregate-write-all c = sym (length-take-le _ _ (run-within _ _ _ _ (c .before .before .murdzeki-plan .ensures)))
 
--- src/main.rt:10:5
 write-all-requires : tie.Need-write-all-requires
 write-all-requires c κs = search needs
 
--- src/main.rt:5:1
 returns : tie.Need-returns
 returns c = search needs
 

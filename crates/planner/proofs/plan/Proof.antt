@@ -11,51 +11,39 @@ use Rattle.planner.specs.PlanLaws.{refused-as}
 use Rattle.planner.proofs.plan.Statement.{statement}
 use Rattle.planner.proofs.plan.Tie as tie
 
--- src/lib.rt:145:9
 refuse-requires : tie.Need-refuse-requires
 refuse-requires c κs = search needs
 
--- src/lib.rt:145:9
 returns : tie.Need-returns
 returns c = refused-as _ _ _ _ _ _ 8 0 (unequal-bottoms _ _ _ _ (λ e. c .before .if1 .taken (sym e))) (c .refuse .ensures)
 
--- src/lib.rt:148:9
 refuse-requires-2 : tie.Need-refuse-requires-2
 refuse-requires-2 c κs = search needs
 
--- src/lib.rt:148:9
 returns-2 : tie.Need-returns-2
 returns-2 c = refused-as _ _ _ _ _ _ 8 0 (unequal-marks _ _ _ _ (sym (c .before .before .if1 .left)) (λ e. c .before .if2 .taken (sym e))) (c .refuse2 .ensures)
 
--- src/lib.rt:151:9
 refuse-requires-3 : tie.Need-refuse-requires-3
 refuse-requires-3 c κs = search needs
 
--- src/lib.rt:151:9
 returns-3 : tie.Need-returns-3
 returns-3 c = refused-as _ _ _ _ _ _ 8 0 (short-partners _ _ _ _ (sym (c .before .before .before .if1 .left)) (sym (c .before .before .if2 .left)) (c .before .if3 .taken)) (c .refuse3 .ensures)
 
--- src/lib.rt:154:9
 refuse-requires-4 : tie.Need-refuse-requires-4
 refuse-requires-4 c κs = search needs
 
--- src/lib.rt:154:9
 returns-4 : tie.Need-returns-4
 returns-4 c = refused-as _ _ _ _ _ _ 8 0 (short-layouts _ _ _ _ (sym (c .before .before .before .before .if1 .left)) (sym (c .before .before .before .if2 .left)) (c .before .before .if3 .left) (c .before .if4 .taken)) (c .refuse4 .ensures)
 
--- src/lib.rt:157:9
 refuse-requires-5 : tie.Need-refuse-requires-5
 refuse-requires-5 c κs = search needs
 
--- src/lib.rt:157:9
 returns-5 : tie.Need-returns-5
 returns-5 c = refused-as _ _ _ _ _ _ 8 0 (short-work _ _ _ _ (sym (c .before .before .before .before .before .if1 .left)) (sym (c .before .before .before .before .if2 .left)) (c .before .before .before .if3 .left) (c .before .before .if4 .left) (c .before .if5 .taken)) (c .refuse5 .ensures)
 
--- src/lib.rt:160:9
 refuse-requires-6 : tie.Need-refuse-requires-6
 refuse-requires-6 c κs = search needs
 
--- src/lib.rt:160:9
 -- the buffers are as they should be
 lent-of : (c : tie.Else5) → Lent (tableOf (c .before .before .before .before .before .before .before .before .before .before .before .before .args .parents .now) (c .before .before .before .before .before .before .before .before .before .before .before .before .args .tops .now) (c .before .before .before .before .before .before .before .before .before .before .before .before .args .bottoms .now) (c .before .before .before .before .before .before .before .before .before .before .before .before .args .marks .now)) (length (c .before .before .before .before .before .before .before .before .before .before .before .before .args .partners .now)) (length (c .before .before .before .before .before .before .before .before .before .before .before .before .args .layouts .now)) (length (c .before .before .before .before .before .before .before .before .before .before .before .before .args .work .now))
 lent-of c =
@@ -70,51 +58,39 @@ lent-of c =
 returns-6 : tie.Need-returns-6
 returns-6 c = refused-as _ _ _ _ _ _ 3 0 (many-layouts _ _ _ _ (lent-of (c .before .before)) (c .before .if6 .taken)) (c .refuse6 .ensures)
 
--- src/lib.rt:163:9
 refuse-requires-7 : tie.Need-refuse-requires-7
 refuse-requires-7 c κs = search needs
 
--- src/lib.rt:163:9
 returns-7 : tie.Need-returns-7
 returns-7 c = refused-as _ _ _ _ _ _ 3 0 (many-jobs _ _ _ _ (lent-of (c .before .before .before)) (c .before .if7 .taken)) (c .refuse7 .ensures)
 
--- src/lib.rt:168:51
 slice-aggregate-settle-layouts : tie.Need-slice-aggregate-settle-layouts
 slice-aggregate-settle-layouts c = search needs
 
--- src/lib.rt:168:64
 slice-aggregate-settle-layouts-2 : tie.Need-slice-aggregate-settle-layouts-2
 slice-aggregate-settle-layouts-2 c = search needs
 
--- src/lib.rt:168:77
 slice-aggregate-settle-layouts-3 : tie.Need-slice-aggregate-settle-layouts-3
 slice-aggregate-settle-layouts-3 c = search needs
 
--- src/lib.rt:168:9
 settle-layouts-requires : tie.Need-settle-layouts-requires
 settle-layouts-requires c κs = search needs
 
--- src/lib.rt:170:26
 enum-known-settled : tie.Need-enum-known-settled
 enum-known-settled c = search needs
 
--- src/lib.rt:172:44
 enum-told : tie.Need-enum-told
 enum-told c = search needs
 
--- src/lib.rt:172:44
 slice-aggregate-plan-settled : tie.Need-slice-aggregate-plan-settled
 slice-aggregate-plan-settled c = search needs
 
--- src/lib.rt:172:53
 slice-aggregate-plan-settled-2 : tie.Need-slice-aggregate-plan-settled-2
 slice-aggregate-plan-settled-2 c = search needs
 
--- src/lib.rt:172:62
 slice-aggregate-plan-settled-3 : tie.Need-slice-aggregate-plan-settled-3
 slice-aggregate-plan-settled-3 c = search needs
 
--- src/lib.rt:171:26
 plan-settled-requires : tie.Need-plan-settled-requires
 plan-settled-requires c κs =
     let small = c .before .before .before .before .before .before .before .before .before .before .before .before .before .before .before .before .if6 .left in (
@@ -125,26 +101,21 @@ plan-settled-requires c κs =
       ),
     )
 
--- src/lib.rt:132:1
 returns-8 : tie.Need-returns-8
 returns-8 c =
     let small = c .before .before .before .before .before .before .before .before .before .before .before .if6 .left in
     let wrong = settled-wrong _ _ _ _ small (omega arith) (omega arith) (omega arith) _ _ _ _ (c .before .before .before .before .before .before .settle-layouts .ensures) _ _ (ap settledAnswer (c .before .settled .given .1)) in
     refused-as _ _ _ _ _ _ _ _ (wrong-tree _ _ _ _ (lent-of (c .before .before .before .before .before .before .before .before .before .before .before .before)) small (c .before .before .before .before .before .before .before .before .before .before .if7 .left) _ _ wrong) refl
 
--- src/lib.rt:132:1
 same-length : tie.Need-same-length
 same-length c = search needs
 
--- src/lib.rt:132:1
 same-length-2 : tie.Need-same-length-2
 same-length-2 c = search needs
 
--- src/lib.rt:132:1
 same-length-3 : tie.Need-same-length-3
 same-length-3 c = search needs
 
--- src/lib.rt:132:1
 returns-9 : tie.Need-returns-9
 returns-9 c =
     let small = c .before .before .before .before .before .before .before .before .before .before .before .before .before .before .before .before .before .before .before .before .before .before .before .if6 .left in

@@ -45,7 +45,6 @@ number-children-below t =
     (falls 4 number-children-kinds.ps _<_ μ-number-children t)
     number-children.Pre
 
--- src/lib.rt:85:14
 number-cast-at :
     (t : ℕ) →
     number-lts.Need-cast-at
@@ -54,7 +53,6 @@ number-cast-at :
     number.Post
 number-cast-at t c = search needs
 
--- src/lib.rt:86:9
 number-number-children-requires : (t : ℕ) → number-lts.Need-number-children-requires (
   number-children-below t,
   number-children.Post,
@@ -63,21 +61,18 @@ number-number-children-requires t c κs =
     let s = c .before .before .before in
     (omega (arith, s .pre .0, s .pre .1 .1 .known, s .pre .1 .1 .tree .small), s .pre .1)
 
--- src/lib.rt:87:5
 number-mul-firsts : (t : ℕ) → number-lts.Need-mul-firsts (
   number-children-below t,
   number-children.Post,
 ) (number-at t) number.Post
 number-mul-firsts t c = search needs
 
--- src/lib.rt:87:5
 number-element-write-firsts : (t : ℕ) → number-lts.Need-element-write-firsts (
   number-children-below t,
   number-children.Post,
 ) (number-at t) number.Post
 number-element-write-firsts t c = search needs
 
--- src/lib.rt:88:17
 number-sub-lasts : (t : ℕ) → number-lts.Need-sub-lasts (
   number-children-below t,
   number-children.Post,
@@ -86,21 +81,18 @@ number-sub-lasts t c =
     let s = c .before .before .before .before in
     omega (arith, c .number-children .ensures _ (s .pre .1 .1) .after, leaves-nonempty (s .pre .1 .0) (s .args .x .0))
 
--- src/lib.rt:88:5
 number-mul-lasts : (t : ℕ) → number-lts.Need-mul-lasts (
   number-children-below t,
   number-children.Post,
 ) (number-at t) number.Post
 number-mul-lasts t c = search needs
 
--- src/lib.rt:88:5
 number-element-write-lasts : (t : ℕ) → number-lts.Need-element-write-lasts (
   number-children-below t,
   number-children.Post,
 ) (number-at t) number.Post
 number-element-write-lasts t c = search needs
 
--- src/lib.rt:74:1
 number-returns :
     (t : ℕ) →
     number-lts.Need-returns
@@ -116,7 +108,6 @@ number-children-Inv-loop child sibling next firsts₀ lasts₀ at c₀ after₀ 
 abbrev number-children-μ-loop : number-children-lts.MeasureT-loop
 number-children-μ-loop child sibling next firsts₀ lasts₀ at c₀ after₀ firsts lasts c after = FFFF - c
 
--- src/lib.rt:104:14
 number-children-cast-at :
     (t : ℕ) →
     number-children-lts.Need-cast-at
@@ -127,7 +118,6 @@ number-children-cast-at :
     number-children-μ-loop
 number-children-cast-at t c = search needs
 
--- src/lib.rt:105:17
 number-children-mul-c :
     (t : ℕ) →
     number-children-lts.Need-mul-c
@@ -138,14 +128,12 @@ number-children-mul-c :
     number-children-μ-loop
 number-children-mul-c t c = search needs
 
--- src/lib.rt:105:17
 number-children-element-copy-out-c : (t : ℕ) → number-children-lts.Need-element-copy-out-c (
   number-below t,
   number.Post,
 ) (number-children-at t) number-children.Post number-children-Inv-loop number-children-μ-loop
 number-children-element-copy-out-c t c = search needs
 
--- src/lib.rt:107:16
 number-children-add-result : (t : ℕ) → number-children-lts.Need-add-result (
   number-below t,
   number.Post,
@@ -154,7 +142,6 @@ number-children-add-result t c =
     let n = c .before .before .before .pre .1 .1 in
     omega (arith, next-small _ _ _ _ _ _ _ n, n .tree .small)
 
--- src/lib.rt:107:9
 number-children-returns :
     (t : ℕ) →
     number-children-lts.Need-returns
@@ -165,7 +152,6 @@ number-children-returns :
     number-children-μ-loop
 number-children-returns t c = λ ps n. leaf-numbered _ _ _ _ _ _ _ n (c .if1 .taken)
 
--- src/lib.rt:110:5
 number-children-loop-holds : (t : ℕ) → number-children-lts.Need-loop-holds (
   number-below t,
   number.Post,
@@ -182,21 +168,18 @@ child-inside t c =
     let h = current-child _ (n .tree) _ (n .known) _ _ _ _ _ _ (c .before .loop .inv _ n) (c .loop-test .taken) in
     omega (arith, h .inside, n .tree .small)
 
--- src/lib.rt:111:20
 number-children-cast-here : (t : ℕ) → number-children-lts.Need-cast-here (
   number-below t,
   number.Post,
 ) (number-children-at t) number-children.Post number-children-Inv-loop number-children-μ-loop
 number-children-cast-here t c = omega (arith, child-inside t c)
 
--- src/lib.rt:112:25
 number-children-mul-following : (t : ℕ) → number-children-lts.Need-mul-following (
   number-below t,
   number.Post,
 ) (number-children-at t) number-children.Post number-children-Inv-loop number-children-μ-loop
 number-children-mul-following t c = omega (arith, child-inside t c)
 
--- src/lib.rt:112:25
 number-children-element-copy-out-following :
     (t : ℕ) →
     number-children-lts.Need-element-copy-out-following
@@ -207,7 +190,6 @@ number-children-element-copy-out-following :
     number-children-μ-loop
 number-children-element-copy-out-following t c = omega (arith, child-inside t c)
 
--- src/lib.rt:113:9
 number-children-number-requires : (t : ℕ) → number-children-lts.Need-number-requires (
   number-below t,
   number.Post,
@@ -220,7 +202,6 @@ number-children-number-requires t c κs =
     let h = current-child _ (n .tree) _ (n .known) _ _ _ _ _ _ done other in
     (omega (arith, s .pre .0, h .greater, h .inside, n .tree .small), (_, child-numberable _ _ _ _ _ _ _ n _ _ _ _ done other))
 
--- src/lib.rt:110:5
 number-children-loop-less : (t : ℕ) → number-children-lts.Need-loop-less (
   number-below t,
   number.Post,
@@ -229,7 +210,6 @@ number-children-loop-less t c =
     let n = c .before .before .before .before .before .before .before .before .before .pre .1 .1 in
     omega (arith, sibling-greater _ (n .tree) _ (n .known) _ _ _ _ _ _ _ _ (n .links) (c .before .before .before .before .before .loop .inv _ n) (c .before .before .before .before .loop-test .taken))
 
--- src/lib.rt:110:5
 number-children-loop-again : (t : ℕ) → number-children-lts.Need-loop-again (
   number-below t,
   number.Post,
@@ -240,7 +220,6 @@ number-children-loop-again t c =
     let other = c .before .before .before .before .loop-test .taken in
     one-done _ (n .tree) _ (n .known) _ _ _ _ _ _ _ _ done other (n .links) _ _ _ (c .number .ensures ps (child-numberable _ _ _ _ _ _ _ n _ _ _ _ done other))
 
--- src/lib.rt:93:1
 number-children-returns-2 : (t : ℕ) → number-children-lts.Need-returns-2 (
   number-below t,
   number.Post,

@@ -6,38 +6,30 @@ use Rattle.settle.specs.Spanned.{above-left, above-right, above-inside}
 use Rattle.settle.proofs.at_or_below.Statement.{statement}
 use Rattle.settle.proofs.at_or_below.Tie as tie
 
--- src/lib.rt:186:9
 cell-requires : tie.Need-cell-requires
 cell-requires c κs = search needs
 
--- src/lib.rt:187:15
 cell-requires-2 : tie.Need-cell-requires-2
 cell-requires-2 c κs = search needs
 
--- src/lib.rt:188:9
 returns : tie.Need-returns
 returns c = λ ps s hu hx. above-left ps _ _ _ s _ _ hu hx (omega (arith, c .before .before .cell .ensures, c .before .cell2 .ensures))
 
--- src/lib.rt:190:8
 cell-requires-3 : tie.Need-cell-requires-3
 cell-requires-3 c κs = search needs
 
--- src/lib.rt:191:9
 returns-2 : tie.Need-returns-2
 returns-2 c =
     λ ps s hu hx. above-right ps _ _ _ s _ _ hu hx
     (omega (arith, c .before .before .if1 .left, c .before .before .before .before .cell .ensures, c .before .before .before .cell2 .ensures))
     (omega (arith, c .before .before .before .before .cell .ensures, c .before .cell3 .ensures))
 
--- src/lib.rt:193:5
 cell-requires-4 : tie.Need-cell-requires-4
 cell-requires-4 c κs = search needs
 
--- src/lib.rt:193:24
 cell-requires-5 : tie.Need-cell-requires-5
 cell-requires-5 c κs = search needs
 
--- src/lib.rt:183:1
 returns-3 : tie.Need-returns-3
 returns-3 c =
     λ ps s hu hx. rw (c .cell5 .ensures, c .before .cell4 .ensures)

@@ -6,23 +6,18 @@ use lib.ListN.{List·getD-eq-default}
 use Rattle.settle.proofs.cell.Statement.{statement}
 use Rattle.settle.proofs.cell.Tie as tie
 
--- src/lib.rt:175:14
 cast-at : tie.Need-cast-at
 cast-at c = search needs
 
--- src/lib.rt:177:16
 mul-result : tie.Need-mul-result
 mul-result c = search needs
 
--- src/lib.rt:177:16
 shared-slice-read-result : tie.Need-shared-slice-read-result
 shared-slice-read-result c = search needs
 
--- src/lib.rt:177:9
 returns : tie.Need-returns
 returns c = search needs
 
--- src/lib.rt:172:1
 returns-2 : tie.Need-returns-2
 returns-2 c = sym (List·getD-eq-default (c .before .before .args .cells .now) 0 (c .if1 .left))
 

@@ -10,43 +10,33 @@ Inv-loop cells count results₀ x₀ results x = CopiedBelow cells count x resul
 abbrev μ-loop : tie.MeasureT-loop
 μ-loop cells count results₀ x₀ results x = count - x
 
--- src/lib.rt:125:5
 loop-holds : tie.Need-loop-holds Inv-loop μ-loop
 loop-holds c = copied-none _ _ _
 
--- src/lib.rt:126:22
 mul-results : tie.Need-mul-results Inv-loop μ-loop
 mul-results c = search needs
 
--- src/lib.rt:126:22
 element-copy-out-results : tie.Need-element-copy-out-results Inv-loop μ-loop
 element-copy-out-results c = search needs
 
--- src/lib.rt:126:9
 mul-results-2 : tie.Need-mul-results-2 Inv-loop μ-loop
 mul-results-2 c = search needs
 
--- src/lib.rt:126:9
 slice-write-results : tie.Need-slice-write-results Inv-loop μ-loop
 slice-write-results c = search needs
 
--- src/lib.rt:127:9
 add-x : tie.Need-add-x Inv-loop μ-loop
 add-x c = search needs
 
--- src/lib.rt:125:5
 loop-less : tie.Need-loop-less Inv-loop μ-loop
 loop-less c = search needs
 
--- src/lib.rt:125:5
 loop-again : tie.Need-loop-again Inv-loop μ-loop
 loop-again c = copied-more _ _ _ _ _ (c .before .before .before .pre .1) (c .before .loop-test .taken) (c .before .before .loop .inv)
 
--- src/lib.rt:119:1
 same-length : tie.Need-same-length Inv-loop μ-loop
 same-length c = search needs
 
--- src/lib.rt:119:1
 returns : tie.Need-returns Inv-loop μ-loop
 returns c = copied-all _ _ _ _ _ (c .loop-test .left) (c .before .loop .inv)
 

@@ -12,7 +12,6 @@ Inv-loop parents child₀ sibling₀ y₀ child sibling y = LinkedFrom parents y
 abbrev μ-loop : tie.MeasureT-loop
 μ-loop parents child₀ sibling₀ y₀ child sibling y = y
 
--- src/lib.rt:59:5
 -- the parent of the layout at hand has a smaller number
 parent-below : (c : tie.In-loop Inv-loop μ-loop) → getD (c .before .before .args .parents .now) (c .before .loop .y - 1) 0 < c .before .loop .y - 1
 parent-below c = c .before .before .pre .0 .smaller (c .before .loop .y - 1) (omega arith)
@@ -20,68 +19,52 @@ parent-below c = c .before .before .pre .0 .smaller (c .before .loop .y - 1) (om
 loop-holds : tie.Need-loop-holds Inv-loop μ-loop
 loop-holds c = linked-none _ _ _ (c .pre .1)
 
--- src/lib.rt:60:9
 sub-y : tie.Need-sub-y Inv-loop μ-loop
 sub-y c = search needs
 
--- src/lib.rt:61:17
 mul-p : tie.Need-mul-p Inv-loop μ-loop
 mul-p c = search needs
 
--- src/lib.rt:61:17
 shared-slice-read-p : tie.Need-shared-slice-read-p Inv-loop μ-loop
 shared-slice-read-p c = search needs
 
--- src/lib.rt:61:17
 cast-p : tie.Need-cast-p Inv-loop μ-loop
 cast-p c = omega (arith, parent-below (c .before))
 
--- src/lib.rt:62:22
 mul-sibling : tie.Need-mul-sibling Inv-loop μ-loop
 mul-sibling c = omega (arith, parent-below (c .before), c .before .before .loop .inv .within, c .before .before .before .pre .0 .small)
 
--- src/lib.rt:62:22
 slice-read-sibling : tie.Need-slice-read-sibling Inv-loop μ-loop
 slice-read-sibling c = omega (arith, parent-below (c .before .before))
 
--- src/lib.rt:62:9
 mul-sibling-2 : tie.Need-mul-sibling-2 Inv-loop μ-loop
 mul-sibling-2 c = search needs
 
--- src/lib.rt:62:9
 slice-write-sibling : tie.Need-slice-write-sibling Inv-loop μ-loop
 slice-write-sibling c = search needs
 
--- src/lib.rt:63:20
 cast-child : tie.Need-cast-child Inv-loop μ-loop
 cast-child c = search needs
 
--- src/lib.rt:63:9
 mul-child : tie.Need-mul-child Inv-loop μ-loop
 mul-child c = omega (arith, parent-below (c .before .before), c .before .before .before .loop .inv .within, c .before .before .before .before .pre .0 .small)
 
--- src/lib.rt:63:9
 slice-write-child : tie.Need-slice-write-child Inv-loop μ-loop
 slice-write-child c = omega (arith, parent-below (c .before .before))
 
--- src/lib.rt:59:5
 loop-less : tie.Need-loop-less Inv-loop μ-loop
 loop-less c = search needs
 
--- src/lib.rt:59:5
 loop-again : tie.Need-loop-again Inv-loop μ-loop
 loop-again c =
     linked-more _ _ _ _ _ _ _ (omega arith) (omega (arith, parent-below (c .before .before))) (c .before .before .before .loop .inv)
 
--- src/lib.rt:53:1
 same-length : tie.Need-same-length Inv-loop μ-loop
 same-length c = search needs
 
--- src/lib.rt:53:1
 same-length-2 : tie.Need-same-length-2 Inv-loop μ-loop
 same-length-2 c = search needs
 
--- src/lib.rt:53:1
 returns : tie.Need-returns Inv-loop μ-loop
 returns c = linked-all _ _ _ _ _ _ (c .before .before .pre .0) (omega arith) (c .before .loop .inv)
 

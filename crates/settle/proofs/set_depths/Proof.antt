@@ -13,7 +13,6 @@ Inv-loop parents depths₀ x₀ depths x = DepthsBelow parents x depths₀ depth
 abbrev μ-loop : tie.MeasureT-loop
 μ-loop parents depths₀ x₀ depths x = length parents - x
 
--- src/lib.rt:43:5
 -- the parent of the layout at hand has a smaller number
 parent-below : (c : tie.In-loop Inv-loop μ-loop) → getD (c .before .before .args .parents .now) (c .before .loop .x) 0 < c .before .loop .x
 parent-below c = c .before .before .pre .0 .smaller (c .before .loop .x) (omega arith)
@@ -21,59 +20,45 @@ parent-below c = c .before .before .pre .0 .smaller (c .before .loop .x) (omega 
 slice-write-depths : tie.Need-slice-write-depths Inv-loop μ-loop
 slice-write-depths c = search needs
 
--- src/lib.rt:45:5
 loop-holds : tie.Need-loop-holds Inv-loop μ-loop
 loop-holds c = depths-root _ (c .args .depths .now) (c .pre .0) (c .pre .1)
 
--- src/lib.rt:46:17
 mul-p : tie.Need-mul-p Inv-loop μ-loop
 mul-p c = search needs
 
--- src/lib.rt:46:17
 shared-slice-read-p : tie.Need-shared-slice-read-p Inv-loop μ-loop
 shared-slice-read-p c = search needs
 
--- src/lib.rt:46:17
 cast-p : tie.Need-cast-p Inv-loop μ-loop
 cast-p c = omega (arith, parent-below (c .before))
 
--- src/lib.rt:47:21
 mul-depths : tie.Need-mul-depths Inv-loop μ-loop
 mul-depths c = omega (arith, parent-below (c .before), c .before .before .before .pre .0 .small)
 
--- src/lib.rt:47:21
 slice-read-depths : tie.Need-slice-read-depths Inv-loop μ-loop
 slice-read-depths c = omega (arith, parent-below (c .before .before))
 
--- src/lib.rt:47:21
 add-depths : tie.Need-add-depths Inv-loop μ-loop
 add-depths c = omega (arith, parent-fits _ _ _ _ (c .before .before .before .before .pre .0) (c .before .before .before .loop .inv), c .before .before .before .before .pre .0 .small)
 
--- src/lib.rt:47:9
 mul-depths-2 : tie.Need-mul-depths-2 Inv-loop μ-loop
 mul-depths-2 c = search needs
 
--- src/lib.rt:47:9
 slice-write-depths-2 : tie.Need-slice-write-depths-2 Inv-loop μ-loop
 slice-write-depths-2 c = omega arith
 
--- src/lib.rt:48:9
 add-x : tie.Need-add-x Inv-loop μ-loop
 add-x c = search needs
 
--- src/lib.rt:45:5
 loop-less : tie.Need-loop-less Inv-loop μ-loop
 loop-less c = search needs
 
--- src/lib.rt:45:5
 loop-again : tie.Need-loop-again Inv-loop μ-loop
 loop-again c = depths-more _ _ _ _ (c .before .before .before .before .pre .0) (c .before .before .loop-test .taken) (c .before .before .before .loop .inv)
 
--- src/lib.rt:38:1
 same-length : tie.Need-same-length Inv-loop μ-loop
 same-length c = c .before .loop .inv .same ∙ simp length-set
 
--- src/lib.rt:38:1
 returns : tie.Need-returns Inv-loop μ-loop
 returns c = depths-all _ _ (c .before .before .args .depths .now) _ (c .before .before .pre .0) (c .loop-test .left) (c .before .loop .inv)
 

@@ -3,39 +3,30 @@ use Rattle.settle.proofs.Outcome.{unlinked, root-numberable, firsts-cop
 use Rattle.settle.proofs.set_leaves.Statement.{statement}
 use Rattle.settle.proofs.set_leaves.Tie as tie
 
--- src/lib.rt:141:28
 slice-aggregate-link-children : tie.Need-slice-aggregate-link-children
 slice-aggregate-link-children c = search needs
 
--- src/lib.rt:141:40
 slice-aggregate-link-children-2 : tie.Need-slice-aggregate-link-children-2
 slice-aggregate-link-children-2 c = search needs
 
--- src/lib.rt:141:5
 link-children-requires : tie.Need-link-children-requires
 link-children-requires c κs = (c .before .before .before .before .before .pre .0, unlinked _ 1024 (c .before .before .before .before .before .pre .0 .small))
 
--- src/lib.rt:144:5
 number-requires : tie.Need-number-requires
 number-requires c κs = (_, root-numberable _ _ _ 1024 (c .before .before .before .before .before .before .before .before .before .before .before .before .pre .0) (c .before .before .before .before .before .before .link-children .ensures) (c .before .before .before .before .before .before .before .before .before .before .before .before .pre .0 .small))
 
--- src/lib.rt:152:5
 copy-cells-requires : tie.Need-copy-cells-requires
 copy-cells-requires c κs = search needs
 
--- src/lib.rt:153:5
 copy-cells-requires-2 : tie.Need-copy-cells-requires-2
 copy-cells-requires-2 c κs = search needs
 
--- src/lib.rt:132:1
 same-length : tie.Need-same-length
 same-length c = search needs
 
--- src/lib.rt:132:1
 same-length-2 : tie.Need-same-length-2
 same-length-2 c = search needs
 
--- src/lib.rt:132:1
 returns : tie.Need-returns
 returns c =
     let s = c .before .before .before .before .before .before .before .before .before .before .before .before .before .before .before .before .before .before .before .before .before .before .before in

@@ -12,27 +12,21 @@ Inv-loop count level₀ width₀ level width = LevelsTo count level width
 abbrev μ-loop : tie.MeasureT-loop
 μ-loop count level₀ width₀ level width = count - level
 
--- src/lib.rt:37:5
 loop-holds : tie.Need-loop-holds Inv-loop μ-loop
 loop-holds c = levels-begin _
 
--- src/lib.rt:38:9
 mul-width : tie.Need-mul-width Inv-loop μ-loop
 mul-width c = omega arith
 
--- src/lib.rt:39:9
 add-level : tie.Need-add-level Inv-loop μ-loop
 add-level c = omega (arith, c .before .loop .inv .within)
 
--- src/lib.rt:37:5
 loop-less : tie.Need-loop-less Inv-loop μ-loop
 loop-less c = omega (arith, levels-room _ _ _ (c .before .loop .inv) (c .loop-test .taken))
 
--- src/lib.rt:37:5
 loop-again : tie.Need-loop-again Inv-loop μ-loop
 loop-again c = levels-step _ _ _ (c .before .loop .inv) (c .loop-test .taken)
 
--- src/lib.rt:31:1
 returns : tie.Need-returns Inv-loop μ-loop
 returns c = levels-found _ _ _ (c .before .loop .inv) (c .loop-test .left)
 

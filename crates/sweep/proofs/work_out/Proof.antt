@@ -6,62 +6,48 @@ use Rattle.sweeping.specs.Filling.{shelf-room, start-filled, end-worked-out}
 use Rattle.sweep.proofs.work_out.Statement.{statement}
 use Rattle.sweep.proofs.work_out.Tie as tie
 
--- src/lib.rt:61:40
 slice-aggregate-set-skips : tie.Need-slice-aggregate-set-skips
 slice-aggregate-set-skips c = search needs
 
--- src/lib.rt:61:5
 set-skips-requires : tie.Need-set-skips-requires
 set-skips-requires c κs = search needs
 
--- src/lib.rt:71:9
 slice-aggregate-prepare : tie.Need-slice-aggregate-prepare
 slice-aggregate-prepare c = search needs
 
--- src/lib.rt:62:5
 prepare-requires : tie.Need-prepare-requires
 prepare-requires c κs = search needs
 
--- src/lib.rt:73:9
 levels-of-requires : tie.Need-levels-of-requires
 levels-of-requires c κs = search needs
 
--- src/lib.rt:74:18
 sub-clear : tie.Need-sub-clear
 sub-clear c = search needs
 
--- src/lib.rt:74:18
 part-clear-start : tie.Need-part-clear-start
 part-clear-start c = search needs
 
--- src/lib.rt:74:18
 part-clear-end : tie.Need-part-clear-end
 part-clear-end c = search needs
 
--- src/lib.rt:74:5
 clear-requires : tie.Need-clear-requires
 clear-requires c κs =
     let s = c .before .before .before .before .before .before .before .before .before .before .before .before .before .before .before .before .before .before .before .before .before in
     let p = c .before .before .before .before .before .prepare in
     omega (arith, shelf-room _ (s .pre .table) _ (c .before .levels-of .ensures), mid-length 16384 (p .last .1 .1 .1 .1 .1 .1 .1 .0), p .kept .1 .1 .1 .1 .1 .1 .1 .0, s .pre .work-length)
 
--- src/lib.rt:75:5
 fill-requires : tie.Need-fill-requires
 fill-requires c κs = search needs
 
--- src/lib.rt:76:5
 fill-requires-2 : tie.Need-fill-requires-2
 fill-requires-2 c κs = search needs
 
--- src/lib.rt:85:9
 slice-aggregate-sweep : tie.Need-slice-aggregate-sweep
 slice-aggregate-sweep c = search needs
 
--- src/lib.rt:86:9
 slice-aggregate-sweep-2 : tie.Need-slice-aggregate-sweep-2
 slice-aggregate-sweep-2 c = search needs
 
--- src/lib.rt:77:9
 sweep-requires : tie.Need-sweep-requires
 sweep-requires c κs =
     let s = c .before .before .before .before .before .before .before .before .before .before .before .before .before .before .before .before .before .before .before .before .before .before .before .before .before .before .before .before .before .before .before .before .before .before .before .before .before in
@@ -86,19 +72,15 @@ sweep-requires c κs =
     (e .kept .0 ∙ mid-length 16384 (p .last .1 .1 .1 .1 .1 .1 .1 .0))
     (e .ensures)
 
--- src/lib.rt:44:1
 same-length : tie.Need-same-length
 same-length c = c .before .before .before .before .before .before .sweep .kept .1 .1 .1 .1 .1 .1 .1 .1 .1 .0 ∙ c .before .before .before .before .before .before .before .before .before .before .before .before .before .before .before .before .before .before .fill .kept .0
 
--- src/lib.rt:44:1
 same-length-2 : tie.Need-same-length-2
 same-length-2 c = c .before .before .before .before .before .before .sweep .kept .1 .1 .1 .1 .1 .1 .1 .1 .1 .1 .0 ∙ c .before .before .before .before .before .before .before .before .before .before .before .before .before .before .fill2 .kept .0
 
--- src/lib.rt:44:1
 same-length-3 : tie.Need-same-length-3
 same-length-3 c = c .before .before .before .before .before .before .sweep .ensures .reaching .work-room ∙ sym (c .before .before .before .before .before .before .before .before .before .before .before .before .before .before .before .before .before .before .before .before .before .before .before .before .before .before .before .before .before .before .before .before .before .before .before .before .before .before .before .before .before .before .before .before .pre .work-length)
 
--- src/lib.rt:44:1
 returns : tie.Need-returns
 returns c =
     let s = c .before .before .before .before .before .before .before .before .before .before .before .before .before .before .before .before .before .before .before .before .before .before .before .before .before .before .before .before .before .before .before .before .before .before .before .before .before .before .before .before .before .before .before .before in

@@ -12,43 +12,33 @@ Inv-loop out₀ at digits value rest₀ left₀ out rest left = LastDigits digit
 abbrev μ-loop : tie.MeasureT-loop
 μ-loop out₀ at digits value rest₀ left₀ out rest left = left
 
--- src/write.rt:36:5
 loop-holds : tie.Need-loop-holds Inv-loop μ-loop
 loop-holds c = no-digits _ _ _ _
 
--- src/write.rt:37:9
 sub-left : tie.Need-sub-left Inv-loop μ-loop
 sub-left c = search needs
 
--- src/write.rt:38:26
 digit-requires : tie.Need-digit-requires Inv-loop μ-loop
 digit-requires c κs = search needs
 
--- src/write.rt:38:13
 add-out : tie.Need-add-out Inv-loop μ-loop
 add-out c = search needs
 
--- src/write.rt:38:9
 slice-write-out : tie.Need-slice-write-out Inv-loop μ-loop
 slice-write-out c = search needs
 
--- src/write.rt:36:5
 loop-less : tie.Need-loop-less Inv-loop μ-loop
 loop-less c = search needs
 
--- src/write.rt:36:5
 loop-again : tie.Need-loop-again Inv-loop μ-loop
 loop-again c = one-digit _ (c .before .before .before .before .pre) (omega (arith, c .before .loop-test .taken)) (c .digit .ensures) (c .before .before .loop .inv)
 
--- src/write.rt:41:5
 add-result : tie.Need-add-result Inv-loop μ-loop
 add-result c = search needs
 
--- src/write.rt:30:1
 same-length : tie.Need-same-length Inv-loop μ-loop
 same-length c = search needs
 
--- src/write.rt:30:1
 returns : tie.Need-returns Inv-loop μ-loop
 returns c = all-digits (omega (arith, c .loop-test .left)) (c .before .loop .inv)
 

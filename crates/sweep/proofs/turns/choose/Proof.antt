@@ -11,27 +11,21 @@ use Rattle.sweeping.specs.Choosing.{own-inside, taken-off, to-inside, chosen}
 use Rattle.sweep.proofs.turns.choose.Statement.{statement}
 use Rattle.sweep.proofs.turns.choose.Tie as tie
 
--- src/sweep.rt:117:28
 add-index : tie.Need-add-index
 add-index c = search needs
 
--- src/sweep.rt:117:9
 index-requires : tie.Need-index-requires
 index-requires c κs = search needs
 
--- src/sweep.rt:118:16
 sub-put : tie.Need-sub-put
 sub-put c = search needs
 
--- src/sweep.rt:118:16
 part-put-start : tie.Need-part-put-start
 part-put-start c = search needs
 
--- src/sweep.rt:118:16
 part-put-end : tie.Need-part-put-end
 part-put-end c = search needs
 
--- src/sweep.rt:118:5
 put-requires : tie.Need-put-requires
 put-requires c κs =
     let s = c .before .before .before .before .before .before .before .before .before .before .before .before .before in
@@ -43,39 +37,30 @@ off c =
     let s = c .before .before .before .before .before .before .before .before .before .before .before .before .before .before in
     taken-off _ _ _ _ _ _ _ _ _ _ _ (s .pre) _ _ (c .before .before .index .ensures .0) (c .put .kept .0 ∙ mid-length 16384 (s .args .work .now)) (c .put .ensures)
 
--- src/sweep.rt:119:9
 index-requires-2 : tie.Need-index-requires-2
 index-requires-2 c κs = search needs
 
--- src/sweep.rt:120:31
 index-requires-3 : tie.Need-index-requires-3
 index-requires-3 c κs = search needs
 
--- src/sweep.rt:120:9
 start-of-requires : tie.Need-start-of-requires
 start-of-requires c κs = search needs
 
--- src/sweep.rt:121:26
 index-requires-4 : tie.Need-index-requires-4
 index-requires-4 c κs = search needs
 
--- src/sweep.rt:121:9
 index-requires-5 : tie.Need-index-requires-5
 index-requires-5 c κs = search needs
 
--- src/sweep.rt:122:19
 sub-lookup : tie.Need-sub-lookup
 sub-lookup c = omega (arith, off (c .before .before .before .before .before .before .before) .work-room)
 
--- src/sweep.rt:122:19
 part-lookup-start : tie.Need-part-lookup-start
 part-lookup-start c = omega (arith, off (c .before .before .before .before .before .before .before .before) .work-room)
 
--- src/sweep.rt:122:19
 part-lookup-end : tie.Need-part-lookup-end
 part-lookup-end c = search needs
 
--- src/sweep.rt:122:5
 lookup-requires : tie.Need-lookup-requires
 lookup-requires c κs =
     let s = c .before .before .before .before .before .before .before .before .before .before .before .before .before .before .before .before .before .before .before .before .before .before .before in (
@@ -83,11 +68,9 @@ lookup-requires c κs =
       to-inside _ _ _ _ _ _ _ _ _ _ _ (s .pre) _ _ _ (c .before .before .before .before .before .before .index2 .ensures .0) (c .before .before .before .before .before .index3 .ensures .0) (c .before .before .before .index4 .ensures .0) _ (c .before .before .index5 .ensures .0),
     )
 
--- src/sweep.rt:98:1
 same-length : tie.Need-same-length
 same-length c = search needs
 
--- src/sweep.rt:98:1
 returns : tie.Need-returns
 returns c =
     let s = c .before .before .before .before .before .before .before .before .before .before .before .before .before .before .before .before .before .before .before .before .before .before .before .before in

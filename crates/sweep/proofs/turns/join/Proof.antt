@@ -6,89 +6,70 @@ use Rattle.sweeping.specs.Joining.{other-slot, climbable, one-small, one-room, 
 use Rattle.sweep.proofs.turns.join.Statement.{statement}
 use Rattle.sweep.proofs.turns.join.Tie as tie
 
--- src/sweep.rt:158:29
 add-index : tie.Need-add-index
 add-index c = search needs
 
--- src/sweep.rt:158:9
 index-requires : tie.Need-index-requires
 index-requires c κs = search needs
 
--- src/sweep.rt:159:28
 add-index-2 : tie.Need-add-index-2
 add-index-2 c = search needs
 
--- src/sweep.rt:159:9
 index-requires-2 : tie.Need-index-requires-2
 index-requires-2 c κs = search needs
 
--- src/sweep.rt:160:16
 sub-put : tie.Need-sub-put
 sub-put c = search needs
 
--- src/sweep.rt:160:16
 part-put-start : tie.Need-part-put-start
 part-put-start c = search needs
 
--- src/sweep.rt:160:16
 part-put-end : tie.Need-part-put-end
 part-put-end c = search needs
 
--- src/sweep.rt:160:5
 put-requires : tie.Need-put-requires
 put-requires c κs =
     let s = c .before .before .before .before .before .before .before .before .before .before .before .before .before .before .before .before .before in
     (rw (mid-tail 16384 (s .args .work .now)) (s .pre .reaching .shelved .shelf), other-slot _ _ _ _ _ _ _ _ _ _ _ _ _ _ (s .pre) _ (c .before .before .before .index .ensures .0) _ (c .before .index2 .ensures .0))
 
--- src/sweep.rt:167:22
 cell-requires : tie.Need-cell-requires
 cell-requires c κs = search needs
 
--- src/sweep.rt:168:22
 cell-requires-2 : tie.Need-cell-requires-2
 cell-requires-2 c κs = search needs
 
--- src/sweep.rt:161:9
 deepest-common-requires : tie.Need-deepest-common-requires
 deepest-common-requires c κs =
     let s = c .before .before .before .before .before .before .before .before .before .before .before .before .before .before .before .before .before .before .before .before .before .before in
     climbable _ _ _ _ _ _ _ _ _ _ _ _ _ _ (s .pre) _ (c .before .before .before .before .before .before .before .before .index .ensures .0) _ _ (c .before .cell .ensures) (c .cell2 .ensures)
 
--- src/sweep.rt:170:34
 cast-set-both : tie.Need-cast-set-both
 cast-set-both c = search needs
 
--- src/sweep.rt:170:48
 cast-set-both-2 : tie.Need-cast-set-both-2
 cast-set-both-2 c =
     let s = c .before .before .before .before .before .before .before .before .before .before .before .before .before .before .before .before .before .before .before .before .before .before .before .before in
     omega (arith, one-small _ _ _ _ _ _ _ _ _ _ _ _ _ _ (s .pre) _ (c .before .before .before .before .before .before .before .before .before .before .index .ensures .0))
 
--- src/sweep.rt:170:5
 set-both-requires : tie.Need-set-both-requires
 set-both-requires c κs =
     let s = c .before .before .before .before .before .before .before .before .before .before .before .before .before .before .before .before .before .before .before .before .before .before .before .before in
     (one-room _ _ _ _ _ _ _ _ _ _ _ _ _ _ (s .pre) _ (c .before .before .before .before .before .before .before .before .before .before .index .ensures .0), other-room _ _ _ _ _ _ _ _ _ _ _ _ _ _ (s .pre) _ (c .before .before .before .before .before .before .before .before .before .before .index .ensures .0))
 
--- src/sweep.rt:171:5
 set-both-requires-2 : tie.Need-set-both-requires-2
 set-both-requires-2 c κs =
     let s = c .before .before .before .before .before .before .before .before .before .before .before .before .before .before .before .before .before .before .before .before .before .before .before .before .before .before .before .before in
     (one-layout-room _ _ _ _ _ _ _ _ _ _ _ _ _ _ (s .pre) _ (c .before .before .before .before .before .before .before .before .before .before .before .before .before .before .index .ensures .0), other-layout-room _ _ _ _ _ _ _ _ _ _ _ _ _ _ (s .pre) _ (c .before .before .before .before .before .before .before .before .before .before .before .before .before .before .index .ensures .0))
 
--- src/sweep.rt:136:1
 same-length : tie.Need-same-length
 same-length c = search needs
 
--- src/sweep.rt:136:1
 same-length-2 : tie.Need-same-length-2
 same-length-2 c = search needs
 
--- src/sweep.rt:136:1
 same-length-3 : tie.Need-same-length-3
 same-length-3 c = search needs
 
--- src/sweep.rt:136:1
 returns : tie.Need-returns
 returns c =
     let s = c .before .before .before .before .before .before .before .before .before .before .before .before .before .before .before .before .before .before .before .before .before .before .before .before .before .before .before .before .before .before .before in

@@ -15,67 +15,52 @@ abbrev μ-loop : tie.MeasureT-loop
 μ-loop parents tops bottoms marks depths ends partners work₀ levels i level reached next₀ work next =
     length tops - next
 
--- src/sweep.rt:74:5
 loop-holds : tie.Need-loop-holds Inv-loop μ-loop
 loop-holds c = let s = c .before .before .before .before .before .before .before .before in record { reaching = s .pre .0; all-deep = s .pre .1 .deep }
 
--- src/sweep.rt:75:29
 add-index : tie.Need-add-index Inv-loop μ-loop
 add-index c = search needs
 
--- src/sweep.rt:75:13
 index-requires : tie.Need-index-requires Inv-loop μ-loop
 index-requires c κs = search needs
 
--- src/sweep.rt:76:29
 add-index-2 : tie.Need-add-index-2 Inv-loop μ-loop
 add-index-2 c = search needs
 
--- src/sweep.rt:76:13
 index-requires-2 : tie.Need-index-requires-2 Inv-loop μ-loop
 index-requires-2 c κs = search needs
 
--- src/sweep.rt:77:13
 index-requires-3 : tie.Need-index-requires-3 Inv-loop μ-loop
 index-requires-3 c κs = search needs
 
--- src/sweep.rt:78:12
 cell-requires : tie.Need-cell-requires Inv-loop μ-loop
 cell-requires c κs = search needs
 
--- src/sweep.rt:79:13
 same-length : tie.Need-same-length Inv-loop μ-loop
 same-length c = c .before .before .before .before .before .before .before .before .loop .inv .reaching .work-room ∙ sym (c .before .before .before .before .before .before .before .before .before .before .before .before .before .before .before .before .before .pre .0 .work-room)
 
--- src/sweep.rt:79:13
 returns : tie.Need-returns Inv-loop μ-loop
 returns c =
     let s = c .before .before .before .before .before .before .before .before .before .before .before .before .before .before .before .before .before in
     reached-some _ _ _ _ _ _ _ _ (c .before .before .before .before .before .before .before .before .loop .inv) (c .before .before .before .before .before .before .before .loop-test .taken) (s .args .depths .now) (s .pre .1 .depth-at) _ (c .before .before .before .before .before .index .ensures .0) _ (c .before .before .before .index2 .ensures .0) _ (c .before .before .index3 .ensures .0) _ (c .before .cell .ensures) (c .if1 .taken)
 
--- src/sweep.rt:81:9
 shelve-requires : tie.Need-shelve-requires Inv-loop μ-loop
 shelve-requires c κs = (c .before .before .before .before .before .before .before .before .before .loop .inv .reaching, c .before .before .before .before .before .before .before .before .loop-test .taken)
 
--- src/sweep.rt:82:9
 add-next : tie.Need-add-next Inv-loop μ-loop
 add-next c = search needs
 
--- src/sweep.rt:74:5
 loop-less : tie.Need-loop-less Inv-loop μ-loop
 loop-less c = search needs
 
--- src/sweep.rt:74:5
 loop-again : tie.Need-loop-again Inv-loop μ-loop
 loop-again c =
     let s = c .before .before .before .before .before .before .before .before .before .before .before .before .before .before .before .before .before .before .before .before .before in
     reached-further _ _ _ _ _ _ _ _ (c .before .before .before .before .before .before .before .before .before .before .before .before .loop .inv) (c .before .before .before .before .before .before .before .before .before .before .before .loop-test .taken) (s .args .depths .now) (s .pre .1 .depth-at) _ (c .before .before .before .before .before .before .before .before .before .index .ensures .0) _ (c .before .before .before .before .before .before .before .index2 .ensures .0) _ (c .before .before .before .before .before .before .index3 .ensures .0) _ (c .before .before .before .before .before .cell .ensures) _ (c .before .before .before .before .if1 .left) (c .before .before .shelve .ensures)
 
--- src/sweep.rt:55:1
 same-length-2 : tie.Need-same-length-2 Inv-loop μ-loop
 same-length-2 c = c .before .loop .inv .reaching .work-room ∙ sym (c .before .before .before .before .before .before .before .before .before .before .pre .0 .work-room)
 
--- src/sweep.rt:55:1
 returns-2 : tie.Need-returns-2 Inv-loop μ-loop
 returns-2 c = reached-all _ _ _ _ _ _ _ _ (c .before .loop .inv) (c .loop-test .left)
 

@@ -4,93 +4,72 @@ use Rattle.sweeping.specs.Reaching.{passed-behind, passed-paired, passed-solo, 
 use Rattle.sweep.proofs.turns.shelve.Statement.{statement}
 use Rattle.sweep.proofs.turns.shelve.Tie as tie
 
--- src/sweep.rt:39:25
 add-index : tie.Need-add-index
 add-index c = search needs
 
--- src/sweep.rt:39:9
 index-requires : tie.Need-index-requires
 index-requires c κs = search needs
 
--- src/sweep.rt:41:9
 same-length : tie.Need-same-length
 same-length c = search needs
 
--- src/sweep.rt:41:9
 returns : tie.Need-returns
 returns c = let s = c .before .before .before .before .before .before .before .before .before .before in passed-behind _ _ _ _ _ _ _ (s .pre .0) (s .pre .1) _ (c .before .index .ensures .0) (c .if1 .taken)
 
--- src/sweep.rt:43:25
 add-index-2 : tie.Need-add-index-2
 add-index-2 c = search needs
 
--- src/sweep.rt:43:9
 index-requires-2 : tie.Need-index-requires-2
 index-requires-2 c κs = search needs
 
--- src/sweep.rt:44:8
 cell-requires : tie.Need-cell-requires
 cell-requires c κs = search needs
 
--- src/sweep.rt:45:9
 same-length-2 : tie.Need-same-length-2
 same-length-2 c = search needs
 
--- src/sweep.rt:45:9
 returns-2 : tie.Need-returns-2
 returns-2 c =
     let s = c .before .before .before .before .before .before .before .before .before .before .before .before .before .before in
     passed-paired _ _ _ _ _ _ _ (s .pre .0) (s .pre .1) _ (c .before .before .before .before .before .index .ensures .0) _ (c .before .before .index2 .ensures .0) _ (c .before .cell .ensures) (c .if2 .taken)
 
--- src/sweep.rt:47:8
 mark-requires : tie.Need-mark-requires
 mark-requires c κs = search needs
 
--- src/sweep.rt:48:9
 same-length-3 : tie.Need-same-length-3
 same-length-3 c = search needs
 
--- src/sweep.rt:48:9
 returns-3 : tie.Need-returns-3
 returns-3 c =
     let s = c .before .before .before .before .before .before .before .before .before .before .before .before .before .before .before .before in
     passed-solo _ _ _ _ _ _ _ (s .pre .0) (s .pre .1) _ (c .before .before .before .before .before .before .before .index .ensures .0) _ (c .before .before .before .before .index2 .ensures .0) _ (c .before .mark .ensures) (c .if3 .taken)
 
--- src/sweep.rt:50:28
 add-index-3 : tie.Need-add-index-3
 add-index-3 c = search needs
 
--- src/sweep.rt:50:9
 index-requires-3 : tie.Need-index-requires-3
 index-requires-3 c κs = search needs
 
--- src/sweep.rt:51:16
 sub-put : tie.Need-sub-put
 sub-put c = search needs
 
--- src/sweep.rt:51:16
 part-put-start : tie.Need-part-put-start
 part-put-start c = search needs
 
--- src/sweep.rt:51:16
 part-put-end : tie.Need-part-put-end
 part-put-end c = search needs
 
--- src/sweep.rt:51:55
 cast-t20 : tie.Need-cast-t20
 cast-t20 c = search needs
 
--- src/sweep.rt:51:5
 put-requires : tie.Need-put-requires
 put-requires c κs =
     let s = c .before .before .before .before .before .before .before .before .before .before .before .before .before .before .before .before .before .before .before in
     (rw (mid-tail 16384 (s .args .work .now)) (s .pre .0 .shelved .shelf), slot-inside _ _ _ _ _ _ _ (s .pre .0) (s .pre .1) _ (c .before .before .before .before .before .before .before .before .before .before .index .ensures .0) _ (c .before .before .before .before .before .before .before .index2 .ensures .0) _ (c .before .index3 .ensures .0))
 
--- src/sweep.rt:23:1
 same-length-4 : tie.Need-same-length-4
 same-length-4 c = search needs
 
--- src/sweep.rt:23:1
 returns-4 : tie.Need-returns-4
 returns-4 c =
     let s = c .before .before .before .before .before .before .before .before .before .before .before .before .before .before .before .before .before .before .before .before .before .before in

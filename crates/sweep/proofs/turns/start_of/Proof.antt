@@ -6,19 +6,15 @@ use borrow.Author.Tests.{eq-eqb, ne-eqb}
 use Rattle.sweep.proofs.turns.start_of.Statement.{statement}
 use Rattle.sweep.proofs.turns.start_of.Tie as tie
 
--- src/sweep.rt:92:9
 returns : tie.Need-returns
 returns c = rw (eq-eqb _ 0 (c .if1 .taken)) refl
 
--- src/sweep.rt:94:17
 sub-index : tie.Need-sub-index
 sub-index c = search needs
 
--- src/sweep.rt:94:5
 index-requires : tie.Need-index-requires
 index-requires c κs = search needs
 
--- src/sweep.rt:88:1
 returns-2 : tie.Need-returns-2
 returns-2 c = rw (ne-eqb _ 0 (c .before .if1 .left)) (c .index .ensures .0)
 

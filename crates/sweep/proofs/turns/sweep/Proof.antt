@@ -16,42 +16,33 @@ abbrev μ-loop : tie.MeasureT-loop
 μ-loop parents tops bottoms marks depths firsts lasts skips ends partners₀ layouts₀ work₀ levels tally₀ i₀ partners layouts work tally i =
     length tops - i
 
--- src/sweep.rt:324:5
 loop-holds : tie.Need-loop-holds Inv-loop μ-loop
 loop-holds c = (omega arith, c .before .before .before .before .before .before .before .before .before .before .before .before .pre, refl, refl)
 
--- src/sweep.rt:325:9
 turn-requires : tie.Need-turn-requires Inv-loop μ-loop
 turn-requires c κs = (c .before .before .before .before .loop .inv .1, c .before .before .before .loop-test .taken)
 
--- src/sweep.rt:328:9
 add-i : tie.Need-add-i Inv-loop μ-loop
 add-i c = search needs
 
--- src/sweep.rt:324:5
 loop-less : tie.Need-loop-less Inv-loop μ-loop
 loop-less c = search needs
 
--- src/sweep.rt:324:5
 loop-again : tie.Need-loop-again Inv-loop μ-loop
 loop-again c =
     let l = c .before .before .before .before .before .before .before .before .before .before .before .loop in
     let t = c .before .before .before .before .before .before .turn in
     (omega arith, t .ensures, t .kept .1 .1 .1 .1 .1 .1 .1 .1 .1 .0 ∙ l .inv .2, t .kept .1 .1 .1 .1 .1 .1 .1 .1 .1 .1 .0 ∙ l .inv .3)
 
--- src/sweep.rt:299:1
 same-length : tie.Need-same-length Inv-loop μ-loop
 same-length c = c .before .loop .inv .2
 
--- src/sweep.rt:299:1
 same-length-2 : tie.Need-same-length-2 Inv-loop μ-loop
 same-length-2 c = c .before .loop .inv .3
 
--- src/sweep.rt:299:1
 same-length-3 : tie.Need-same-length-3 Inv-loop μ-loop
 same-length-3 c = c .before .loop .inv .1 .reaching .work-room ∙ sym (c .before .before .before .before .before .before .before .before .before .before .before .before .before .before .pre .reaching .work-room)
 
--- src/sweep.rt:299:1
 returns : tie.Need-returns Inv-loop μ-loop
 returns c =
     let l = c .before .loop in

@@ -4,89 +4,70 @@ use Rattle.sweeping.specs.Sweeping.{turn-deep, turned-paired, turned-solo, turn
 use Rattle.sweep.proofs.turns.turn.Statement.{statement}
 use Rattle.sweep.proofs.turns.turn.Tie as tie
 
--- src/sweep.rt:252:25
 add-index : tie.Need-add-index
 add-index c = search needs
 
--- src/sweep.rt:252:9
 index-requires : tie.Need-index-requires
 index-requires c κs = search needs
 
--- src/sweep.rt:253:30
 index-requires-2 : tie.Need-index-requires-2
 index-requires-2 c κs = search needs
 
--- src/sweep.rt:253:9
 cell-requires : tie.Need-cell-requires
 cell-requires c κs = search needs
 
--- src/sweep.rt:254:9
 reach-requires : tie.Need-reach-requires
 reach-requires c κs =
     let s = c .before .before .before .before .before .before .before .before .before .before .before .before .before .before .before .before .before .before in
     (s .pre .0 .reaching, turn-deep _ _ _ _ _ _ _ _ _ _ _ _ _ _ _ (s .pre .0) (s .pre .1) _ _ _ (c .before .before .before .before .index .ensures .0) (c .before .before .before .index2 .ensures .0) (c .before .before .cell .ensures))
 
--- src/sweep.rt:257:8
 cell-requires-2 : tie.Need-cell-requires-2
 cell-requires-2 c κs = search needs
 
--- src/sweep.rt:258:9
 same-length : tie.Need-same-length
 same-length c = search needs
 
--- src/sweep.rt:258:9
 same-length-2 : tie.Need-same-length-2
 same-length-2 c = search needs
 
--- src/sweep.rt:258:9
 returns : tie.Need-returns
 returns c =
     let s = c .before .before .before .before .before .before .before .before .before .before .before .before .before .before .before .before .before .before .before .before .before .before .before .before in
     turned-paired _ _ _ _ _ _ _ _ _ _ _ _ _ _ _ (s .pre .0) (s .pre .1) _ _ _ (c .before .before .before .before .before .before .before .before .before .before .index .ensures .0) (c .before .before .before .before .before .before .before .before .before .index2 .ensures .0) (c .before .before .before .before .before .before .before .before .cell .ensures) _ _ (c .before .before .before .before .before .reach .ensures) _ (c .before .cell2 .ensures) (c .if1 .taken)
 
--- src/sweep.rt:265:8
 mark-requires : tie.Need-mark-requires
 mark-requires c κs = search needs
 
--- src/sweep.rt:269:22
 add-t31 : tie.Need-add-t31
 add-t31 c =
     let s = c .before .before .before .before .before .before .before .before .before .before .before .before .before .before .before .before .before .before .before .before .before .before .before .before .before .before .before in
     omega (arith, s .pre .0 .few-passes, s .pre .1, s .pre .0 .reaching .accepted .few)
 
--- src/sweep.rt:266:9
 same-length-3 : tie.Need-same-length-3
 same-length-3 c = search needs
 
--- src/sweep.rt:266:9
 same-length-4 : tie.Need-same-length-4
 same-length-4 c = search needs
 
--- src/sweep.rt:266:9
 returns-2 : tie.Need-returns-2
 returns-2 c =
     let s = c .before .before .before .before .before .before .before .before .before .before .before .before .before .before .before .before .before .before .before .before .before .before .before .before .before .before .before in
     turned-solo _ _ _ _ _ _ _ _ _ _ _ _ _ _ _ (s .pre .0) (s .pre .1) _ _ _ (c .before .before .before .before .before .before .before .before .before .before .before .before .before .index .ensures .0) (c .before .before .before .before .before .before .before .before .before .before .before .before .index2 .ensures .0) (c .before .before .before .before .before .before .before .before .before .before .before .cell .ensures) _ _ (c .before .before .before .before .before .before .before .before .reach .ensures) _ _ (c .before .before .before .before .cell2 .ensures) (c .before .before .before .if1 .left) (c .before .before .mark .ensures) (c .before .if2 .taken)
 
--- src/sweep.rt:273:5
 offer-requires : tie.Need-offer-requires
 offer-requires c κs =
     let s = c .before .before .before .before .before .before .before .before .before .before .before .before .before .before .before .before .before .before .before .before .before .before .before .before .before .before .before .before .before in
     turned-offering _ _ _ _ _ _ _ _ _ _ _ _ _ _ _ (s .pre .0) (s .pre .1) _ _ _ (c .before .before .before .before .before .before .before .before .before .before .before .before .before .before .before .index .ensures .0) (c .before .before .before .before .before .before .before .before .before .before .before .before .before .before .index2 .ensures .0) (c .before .before .before .before .before .before .before .before .before .before .before .before .before .cell .ensures) _ _ (c .before .before .before .before .before .before .before .before .before .before .reach .ensures) _ _ (c .before .before .before .before .before .before .cell2 .ensures) (c .before .before .before .before .before .if1 .left) (c .before .before .before .before .mark .ensures) (c .before .before .before .if2 .left)
 
--- src/sweep.rt:231:1
 same-length-5 : tie.Need-same-length-5
 same-length-5 c = search needs
 
--- src/sweep.rt:231:1
 same-length-6 : tie.Need-same-length-6
 same-length-6 c = search needs
 
--- src/sweep.rt:231:1
 same-length-7 : tie.Need-same-length-7
 same-length-7 c = search needs
 
--- src/sweep.rt:231:1
 returns-3 : tie.Need-returns-3
 returns-3 c = search needs
 
