@@ -8,14 +8,14 @@ use native.Mathlib.Omega.{arith}
 use lib.ListN.{length, getD, set, length-set}
 use lib.Seq.{getD-set-same, getD-set-other}
 use Rattle.model.specs.Tree.{layoutLimit}
-use Rattle.tree.specs.WellFormed.{Tree}
-use Rattle.tree.specs.Chain.{Above, self, up, above-trans, above-le, above-depth}
+use Rattle.tree_laws.specs.WellFormed.{Tree}
+use Rattle.tree_laws.specs.Chain.{AncestorOrSelf, self, up, ancestor-trans, ancestor-le, ancestor-depth}
 use Rattle.common.specs.Common.{StrictlyAbove, Skippable, SkippingBelow, Skipping, SkipsAbove}
 
 -- every skip leads up, that of layout 0 to itself
-pub skip-above : (ps : List ℕ) (n : ℕ) (skips : List ℕ) → SkippingBelow ps n skips → (y : ℕ) → y < n → Above ps (getD skips y 0) y
-skip-above ps n skips s zero h = rw (s .root) self
-skip-above ps n skips s (suc y) h = s .skip (suc y) (omega arith) h .leads-up
+pub skip-ancestor : (ps : List ℕ) (n : ℕ) (skips : List ℕ) → SkippingBelow ps n skips → (y : ℕ) → y < n → AncestorOrSelf ps (getD skips y 0) y
+skip-ancestor ps n skips s zero h = rw (s .root) self
+skip-ancestor ps n skips s (suc y) h = s .skip (suc y) (omega arith) h .leads-up
 
 -- ---- the skip of x
 
@@ -47,29 +47,29 @@ module _ (ps depths skips : List ℕ) (x : ℕ) (a : SkipsAbove ps depths skips 
   parent-smaller : parent < x
   parent-smaller = tree .smaller x (a .later)
 
-  near-above : Above ps near parent
-  near-above = skip-above ps x skips (a .skipping) parent parent-smaller
+  near-ancestor : AncestorOrSelf ps near parent
+  near-ancestor = skip-ancestor ps x skips (a .skipping) parent parent-smaller
 
   near-smaller : near < x
-  near-smaller = omega (arith, parent-smaller, above-le ps tree near-above)
+  near-smaller = omega (arith, parent-smaller, ancestor-le ps tree near-ancestor)
 
-  far-above : Above ps far near
-  far-above = skip-above ps x skips (a .skipping) near near-smaller
+  far-ancestor : AncestorOrSelf ps far near
+  far-ancestor = skip-ancestor ps x skips (a .skipping) near near-smaller
 
   -- no skip leads to a deeper layout
-  no-deeper : (u v : ℕ) → v < x → Above ps u v → getD depths u 0 ≤ getD depths v 0
+  no-deeper : (u v : ℕ) → v < x → AncestorOrSelf ps u v → getD depths u 0 ≤ getD depths v 0
   no-deeper u v h b =
       let known : x < length ps = a .known in
-      rw (a .lent .depth-at u (omega (arith, above-le ps tree b)), a .lent .depth-at v (omega arith)) (above-depth ps tree b)
+      rw (a .lent .depth-at u (omega (arith, ancestor-le ps tree b)), a .lent .depth-at v (omega arith)) (ancestor-depth ps tree b)
 
   pub stops : Stops ps depths skips x
   stops =
       record {
         parent-smaller = parent-smaller;
         near-smaller = near-smaller;
-        far-smaller = omega (arith, near-smaller, above-le ps tree far-above);
-        near-depth = no-deeper near parent parent-smaller near-above;
-        far-depth = no-deeper far near near-smaller far-above;
+        far-smaller = omega (arith, near-smaller, ancestor-le ps tree far-ancestor);
+        near-depth = no-deeper near parent parent-smaller near-ancestor;
+        far-depth = no-deeper far near near-smaller far-ancestor;
         known = a .known;
         small = tree .small;
         depths-room = a .lent .depths-room;
@@ -81,7 +81,7 @@ module _ (ps depths skips : List ℕ) (x : ℕ) (a : SkipsAbove ps depths skips 
   to-parent = record { leads-up = up (a .later) self; smaller = parent-smaller }
 
   pub past-two : StrictlyAbove ps far x
-  past-two = record { leads-up = up (a .later) (above-trans ps tree far-above near-above); smaller = stops .far-smaller }
+  past-two = record { leads-up = up (a .later) (ancestor-trans ps tree far-ancestor near-ancestor); smaller = stops .far-smaller }
 
 -- ---- setting them, one by one
 
@@ -110,8 +110,8 @@ module _ (ps depths : List ℕ) where
       }
 
   -- then x, from those in front of it
-  pub above-set : (old : List ℕ) (x : ℕ) (skips : List ℕ) → x < length ps → SkipsSet ps depths old x skips → SkipsAbove ps depths skips x
-  above-set old x skips h s = record { lent = s .lent; skipping = s .skipping; later = s .some; known = h }
+  pub ancestor-set : (old : List ℕ) (x : ℕ) (skips : List ℕ) → x < length ps → SkipsSet ps depths old x skips → SkipsAbove ps depths skips x
+  ancestor-set old x skips h s = record { lent = s .lent; skipping = s .skipping; later = s .some; known = h }
 
   pub one-more-set : (old : List ℕ) (x : ℕ) (skips : List ℕ) (r : ℕ) → x < length ps → StrictlyAbove ps r x → SkipsSet ps depths old x skips → SkipsSet ps depths old (x + 1) (set skips x r)
   one-more-set old x skips r h u s =

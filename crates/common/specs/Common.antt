@@ -9,16 +9,16 @@ use native.Mathlib.Nat.{le-antisymm}
 use lib.ListN.{length, getD}
 use Rattle.model.specs.Tree.{depth}
 use Rattle.model.specs.Jobs.{Table, jobs, bottom, shares, deepestShared}
-use Rattle.tree.specs.WellFormed.{Tree}
-use Rattle.tree.specs.Chain.{Above, above-le}
-use Rattle.tree.specs.Sharing.{shares-symmetric}
-use Rattle.tree.specs.Deepest as deepest
+use Rattle.tree_laws.specs.WellFormed.{Tree}
+use Rattle.tree_laws.specs.Chain.{AncestorOrSelf, ancestor-le}
+use Rattle.tree_laws.specs.Sharing.{shares-symmetric}
+use Rattle.tree_laws.specs.Deepest as deepest
 use Rattle.settle.specs.Spanned.{Spanned}
 use Rattle.orders.specs.Accepted.{Accepted}
 
 -- u is above x and another layout
 pub record StrictlyAbove (ps : List ℕ) (u x : ℕ) : Type 0 where
-  pub leads-up : Above ps u x
+  pub leads-up : AncestorOrSelf ps u x
   pub smaller : u < x
 
 -- what setting skips is lent: a tree, the depths of its layouts, and a cell for each layout's skip
@@ -55,18 +55,18 @@ pub record Climbable (ps skips depths firsts lasts : List ℕ) (x y : ℕ) : Typ
 -- r is strictly above x, and every layout above both x and y is above r
 pub record ClimbedTo (ps : List ℕ) (x y r : ℕ) : Type 0 where
   pub strictly : StrictlyAbove ps r x
-  pub keeps : (u : ℕ) → Above ps u x → Above ps u y → Above ps u r
+  pub keeps : (u : ℕ) → AncestorOrSelf ps u x → AncestorOrSelf ps u y → AncestorOrSelf ps u r
 
 -- r is the deepest layout above both x and y: every such layout is above it
 pub record DeepestCommon (ps : List ℕ) (x y r : ℕ) : Type 0 where
   pub known : r < length ps
-  pub above-first : Above ps r x
-  pub above-second : Above ps r y
-  pub deepest : (u : ℕ) → Above ps u x → Above ps u y → Above ps u r
+  pub ancestor-first : AncestorOrSelf ps r x
+  pub ancestor-second : AncestorOrSelf ps r y
+  pub deepest : (u : ℕ) → AncestorOrSelf ps u x → AncestorOrSelf ps u y → AncestorOrSelf ps u r
 
 -- it is the deepest in either order
 pub common-symmetric : {ps : List ℕ} {x y r : ℕ} → DeepestCommon ps x y r → DeepestCommon ps y x r
-common-symmetric d = record { known = d .known; above-first = d .above-second; above-second = d .above-first; deepest = λ u a b. d .deepest u b a }
+common-symmetric d = record { known = d .known; ancestor-first = d .ancestor-second; ancestor-second = d .ancestor-first; deepest = λ u a b. d .deepest u b a }
 
 -- skips can be set for a settled tree
 pub skippable : (ps depths firsts lasts skips : List ℕ) → Spanned ps depths firsts lasts → length ps ≤ length skips → Skippable ps depths skips
@@ -80,8 +80,8 @@ module _ (tb : Table) (a : Accepted tb) (i j : ℕ) (hi : i < jobs tb) (hj : j <
       let t : Tree ps = a .tree in
       let on = deepest.deepest-on tb t i j (a .downward i hi) (a .downward j hj) s in
       le-antisymm
-      (above-le ps t (deepest.deepest-common tb t i j (a .downward i hi) (a .downward j hj) s (d .above-first) (d .above-second)))
-      (above-le ps t (d .deepest (deepestShared tb i j) (on .0 .lower) (on .1 .lower)))
+      (ancestor-le ps t (deepest.deepest-common tb t i j (a .downward i hi) (a .downward j hj) s (d .ancestor-first) (d .ancestor-second)))
+      (ancestor-le ps t (d .deepest (deepestShared tb i j) (on .0 .lower) (on .1 .lower)))
 
   -- and it is the same the other way round: what lies on both paths lies on both
   pub shared-symmetric : deepestShared tb i j ≡ deepestShared tb j i
@@ -91,5 +91,5 @@ module _ (tb : Table) (a : Accepted tb) (i j : ℕ) (hi : i < jobs tb) (hj : j <
       let there = deepest.deepest-on tb t i j (a .downward i hi) (a .downward j hj) s in
       let back = deepest.deepest-on tb t j i (a .downward j hj) (a .downward i hi) (sym (shares-symmetric tb i j) ∙ s) in
       le-antisymm
-      (above-le ps t (deepest.deepest-below tb t j i (there .1) (there .0)))
-      (above-le ps t (deepest.deepest-below tb t i j (back .1) (back .0)))
+      (ancestor-le ps t (deepest.deepest-below tb t j i (there .1) (there .0)))
+      (ancestor-le ps t (deepest.deepest-below tb t i j (back .1) (back .0)))

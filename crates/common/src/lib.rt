@@ -3,7 +3,7 @@
 use model::LayoutNumber;
 ghost use mathlib.Core.Path.{_≡_};
 ghost use mathlib.Core.Bool.{false};
-ghost use Rattle.model.specs.Tree.{above};
+ghost use Rattle.model.specs.Tree.{ancestorOrSelf};
 ghost use Rattle.common.specs.Common.{StrictlyAbove, Skippable, SkipsAbove, Skipping, Climbable, ClimbedTo, DeepestCommon};
 
 // The skip of layout x, once those above it have theirs: as far as two skips of its parent where these are of one length, else to its parent.
@@ -46,7 +46,7 @@ fn climbed(
     y: LayoutNumber,
 ) -> LayoutNumber
     requires { ⌜ Climbable (now parents) (now skips) (now depths) (now firsts) (now lasts) (x .0) (y .0) ⌝ }
-    requires { ⌜ above (now parents) (x .0) (y .0) ≡ false ⌝ }
+    requires { ⌜ ancestorOrSelf (now parents) (x .0) (y .0) ≡ false ⌝ }
     ensures { λ r. ⌜ ClimbedTo (now (parents .entry)) (x .0) (y .0) (r .0) ⌝ }
 {
     let at = x.0 as usize;

@@ -10,7 +10,7 @@ use lib.ListN.{length, getD, take, drop, length-drop}
 use lib.Seq.{getD-drop}
 use lib.Dec.{eqb, ltb, leb}
 use borrow.Author.Tests.{ne-eqb, eqb-true, eq-eqb, leb-true, leb-false, le-leb, lt-leb, lt-ltb, le-ltb}
-use Rattle.model.specs.Lists.{all}
+use Rattle.model.specs.Lists.{allOf}
 use Rattle.model.specs.Table.{isDigit, digitValue, numberAfter, kindOf}
 use Rattle.frame.specs.Fields.{digitRead, FieldRead, KindRead}
 use Rattle.frame.specs.Lines.{both-true}
@@ -123,7 +123,7 @@ tells a b c d true true true true e f g h =
 pub field-read : (s : List ℕ) (at : ℕ) → at + 4 ≤ length s
     → FieldRead s at
     (places (digitRead (getD s at 0)) (digitRead (getD s (at + 1) 0)) (digitRead (getD s (at + 2) 0)) (digitRead (getD s (at + 3) 0)))
-unfolding all
+unfolding allOf
 field-read s at h =
     let t = tells (getD s at 0) (getD s (at + 1) 0) (getD s (at + 2) 0) (getD s (at + 3) 0) _ _ _ _ refl refl refl refl in
     record { tells = rw (four-at s at h) (t .0); value = rw (four-at s at h) (t .1) }
@@ -146,22 +146,22 @@ spelled a b k h (high f t v) y e = absurd (omega arith)
 
 -- a kind below 10 is spelled by '0' and one other byte
 kind-bytes : (s : List ℕ) (k : ℕ) → 2 ≤ length s → k < 10
-    → (all isDigit (take 2 s) && eqb (kindOf s) k) ≡ (eqb (getD s 0 0) 48 && eqb (getD s 1 0) (48 + k))
-unfolding all numberAfter
+    → (allOf isDigit (take 2 s) && eqb (kindOf s) k) ≡ (eqb (getD s 0 0) 48 && eqb (getD s 1 0) (48 + k))
+unfolding allOf numberAfter
 kind-bytes [] k h u = absurd (omega arith)
 kind-bytes (a ∷ []) k h u = absurd (omega arith)
 kind-bytes (a ∷ b ∷ s) k h u = same-test _ _ to-bytes of-bytes
   where
-    to-bytes : (all isDigit (a ∷ b ∷ []) && eqb (kindOf (a ∷ b ∷ s)) k) ≡ true → (eqb a 48 && eqb b (48 + k)) ≡ true
+    to-bytes : (allOf isDigit (a ∷ b ∷ []) && eqb (kindOf (a ∷ b ∷ s)) k) ≡ true → (eqb a 48 && eqb b (48 + k)) ≡ true
     to-bytes e =
-        let p = both-true (all isDigit (a ∷ b ∷ [])) (eqb (kindOf (a ∷ b ∷ s)) k) e in
+        let p = both-true (allOf isDigit (a ∷ b ∷ [])) (eqb (kindOf (a ∷ b ∷ s)) k) e in
         let d = both-true (isDigit a) (isDigit b && true) (p .0) in
         let f = both-true (isDigit b) true (d .1) in
         let n = eqb-true (kindOf (a ∷ b ∷ s)) k (p .1) in
         let q = spelled a b k u (digit a (d .0)) (digit b (f .0)) (omega arith) in
         rw (eq-eqb a 48 (q .0), eq-eqb b (48 + k) (q .1))
 
-    of-bytes : (eqb a 48 && eqb b (48 + k)) ≡ true → (all isDigit (a ∷ b ∷ []) && eqb (kindOf (a ∷ b ∷ s)) k) ≡ true
+    of-bytes : (eqb a 48 && eqb b (48 + k)) ≡ true → (allOf isDigit (a ∷ b ∷ []) && eqb (kindOf (a ∷ b ∷ s)) k) ≡ true
     of-bytes e =
         let p = both-true (eqb a 48) (eqb b (48 + k)) e in
         let first = eqb-true a 48 (p .0) in

@@ -11,7 +11,7 @@ use lib.ListN.{length, getD, take, drop}
 use lib.Seq.{take-nil, getD-drop}
 use lib.Dec.{eqb}
 use borrow.Author.Tests.{eqb-true, lt-ltb, le-ltb}
-use Rattle.model.specs.Lists.{all}
+use Rattle.model.specs.Lists.{allOf}
 use Rattle.model.specs.Table.{isDigit, kindOf, fieldAt, layoutFrame, jobFrame, soloFrame, endFrame, firstLine, frameOf}
 use Rattle.frame.specs.Fields.{FieldRead, KindRead, endsAfter}
 use Rattle.frame.specs.Lines.{digitLine, end-within, short-line, longFrame, long-line, no-frame}
@@ -20,10 +20,10 @@ use Rattle.frame.specs.Lines.{digitLine, end-within, short-line, longFra
 
 -- the four digits of the field at k are right
 abbrev pub rightField : ℕ → List ℕ → Bool
-rightField k s = all isDigit (take 4 (drop k s))
+rightField k s = allOf isDigit (take 4 (drop k s))
 
-digits-of : (k m : ℕ) (s : List ℕ) → all isDigit (take (k + m) s) ≡ (all isDigit (take k s) && all isDigit (take m (drop k s)))
-unfolding all
+digits-of : (k m : ℕ) (s : List ℕ) → allOf isDigit (take (k + m) s) ≡ (allOf isDigit (take k s) && allOf isDigit (take m (drop k s)))
+unfolding allOf
 digits-of zero m s = rw zero-add
 digits-of (suc k) m [] = rw (suc-add, take-nil m)
 digits-of (suc k) m (b ∷ s) = rw (suc-add, digits-of k m s, and-assoc)
@@ -34,18 +34,18 @@ ends-within n s e = end-within s n (eqb-true (getD s n 0) 10 e)
 -- a line of n digits ends after them
 no-end : (n : ℕ) (s : List ℕ) → endsAfter n s ≡ false → digitLine n s ≡ false
 unfolding digitLine
-no-end n s e = rw (e, and-false (all isDigit (take n s)))
+no-end n s e = rw (e, and-false (allOf isDigit (take n s)))
 
-short-digits : (s : List ℕ) → endsAfter 6 s ≡ true → digitLine 6 s ≡ (all isDigit (take 2 s) && rightField 2 s)
+short-digits : (s : List ℕ) → endsAfter 6 s ≡ true → digitLine 6 s ≡ (allOf isDigit (take 2 s) && rightField 2 s)
 unfolding digitLine
 short-digits s e = rw (e, and-true, digits-of 2 4 s)
 
-long-digits : (s : List ℕ) → endsAfter 10 s ≡ true → digitLine 10 s ≡ (all isDigit (take 2 s) && (rightField 2 s && rightField 6 s))
+long-digits : (s : List ℕ) → endsAfter 10 s ≡ true → digitLine 10 s ≡ (allOf isDigit (take 2 s) && (rightField 2 s && rightField 6 s))
 unfolding digitLine
 long-digits s e = rw (e, and-true, digits-of 6 4 s, digits-of 2 4 s, and-assoc)
 
-end-no-field : (l : List ℕ) → getD l 0 0 ≡ 10 → all isDigit (take 4 l) ≡ false
-unfolding all isDigit
+end-no-field : (l : List ℕ) → getD l 0 0 ≡ 10 → allOf isDigit (take 4 l) ≡ false
+unfolding allOf isDigit
 end-no-field [] e = absurd (omega arith)
 end-no-field (b ∷ l) e = rw e
 
@@ -54,7 +54,7 @@ no-long : (s : List ℕ) → endsAfter 6 s ≡ true → digitLine 10 s ≡ false
 unfolding digitLine
 no-long s e =
     let wrong = end-no-field (drop 6 s) (getD-drop 6 s 0 0 ∙ eqb-true (getD s 6 0) 10 e) in
-    rw (digits-of 6 4 s, wrong, and-false (all isDigit (take 6 s)))
+    rw (digits-of 6 4 s, wrong, and-false (allOf isDigit (take 6 s)))
 
 -- ---- what a field that was read tells
 
@@ -69,12 +69,12 @@ wrong s at r f h = sym (f .tells) ∙ le-ltb r 65536 h
 module _ (s : List ℕ) (e : endsAfter 6 s ≡ true) (p : ℕ) (parent : FieldRead s 2 p) where
   pub short-wrong : 65536 ≤ p → frameOf (firstLine s) ≡ none
   short-wrong h =
-      no-frame s (short-digits s e ∙ rw (wrong s 2 p parent h, and-false (all isDigit (take 2 s)))) (no-long s e)
+      no-frame s (short-digits s e ∙ rw (wrong s 2 p parent h, and-false (allOf isDigit (take 2 s)))) (no-long s e)
 
   pub short-right : p < 65536 → (r : ℕ) → KindRead s r → frameOf (firstLine s) ≡ cond (eqb r 1) (some (layoutFrame p)) none
-  short-right h r kind = rw (kind 1 (omega arith) (omega arith), parent .value h) (go (all isDigit (take 2 s)) refl)
+  short-right h r kind = rw (kind 1 (omega arith) (omega arith), parent .value h) (go (allOf isDigit (take 2 s)) refl)
     where
-      go : (t : Bool) → all isDigit (take 2 s) ≡ t → frameOf (firstLine s) ≡ cond (t && eqb (kindOf s) 1) (some (layoutFrame (fieldAt 2 s))) none
+      go : (t : Bool) → allOf isDigit (take 2 s) ≡ t → frameOf (firstLine s) ≡ cond (t && eqb (kindOf s) 1) (some (layoutFrame (fieldAt 2 s))) none
       go true d = short-line s (short-digits s e ∙ rw (d, right s 2 p parent h))
       go false d = no-frame s (short-digits s e ∙ rw d) (no-long s e)
 
@@ -82,7 +82,7 @@ module _ (s : List ℕ) (e : endsAfter 6 s ≡ true) (p : ℕ) (parent : FieldRe
 
 module _ (s : List ℕ) (a : endsAfter 6 s ≡ false) (e : endsAfter 10 s ≡ true) (p q : ℕ) (first : FieldRead s 2 p) (second : FieldRead s 6 q) where
   wrong-digits : (rightField 2 s && rightField 6 s) ≡ false → frameOf (firstLine s) ≡ none
-  wrong-digits w = no-frame s (no-end 6 s a) (long-digits s e ∙ rw (w, and-false (all isDigit (take 2 s))))
+  wrong-digits w = no-frame s (no-end 6 s a) (long-digits s e ∙ rw (w, and-false (allOf isDigit (take 2 s))))
 
   pub first-wrong : 65536 ≤ p → frameOf (firstLine s) ≡ none
   first-wrong h = wrong-digits (rw (wrong s 2 p first h))
@@ -93,9 +93,9 @@ module _ (s : List ℕ) (a : endsAfter 6 s ≡ false) (e : endsAfter 10 s ≡ tr
   pub long-right : p < 65536 → q < 65536 → (r : ℕ) → KindRead s r → frameOf (firstLine s) ≡ longFrame r p q
   long-right h k r kind =
       rw (kind 2 (omega arith) (omega arith), kind 3 (omega arith) (omega arith), kind 4 (omega arith) (omega arith), first .value h, second .value k)
-      (go (all isDigit (take 2 s)) refl)
+      (go (allOf isDigit (take 2 s)) refl)
     where
-      go : (t : Bool) → all isDigit (take 2 s) ≡ t
+      go : (t : Bool) → allOf isDigit (take 2 s) ≡ t
           → frameOf (firstLine s)
           ≡ cond (t && eqb (kindOf s) 2) (some (jobFrame (fieldAt 2 s) (fieldAt 6 s)))
           (cond (t && eqb (kindOf s) 4) (some (soloFrame (fieldAt 2 s) (fieldAt 6 s)))

@@ -5,7 +5,7 @@ use mathlib.Core.Bool.{Bool, cond, _&&_}
 use mathlib.Core.List.{List}
 use lib.ListN.{getD, take, drop}
 use lib.Dec.{eqb, ltb}
-use Rattle.model.specs.Lists.{all}
+use Rattle.model.specs.Lists.{allOf}
 use Rattle.model.specs.Table.{isDigit, digitValue, kindOf, fieldAt}
 
 -- a digit's value; a wrong digit has 65,536, which no field of right digits reaches
@@ -14,12 +14,12 @@ digitRead b = cond (isDigit b) (digitValue b) 65536
 
 -- r is the field at `at`, or 65,536 or more where one of its digits is wrong
 pub record FieldRead (s : List ℕ) (at r : ℕ) : Type 0 where
-  pub tells : ltb r 65536 ≡ all isDigit (take 4 (drop at s))
+  pub tells : ltb r 65536 ≡ allOf isDigit (take 4 (drop at s))
   pub value : r < 65536 → r ≡ fieldAt at s
 
 -- r is one of the kinds 1 to 4 exactly where two digits spell it
 abbrev pub KindRead : List ℕ → ℕ → Type 0
-KindRead s r = (k : ℕ) → 0 < k → k < 5 → eqb r k ≡ (all isDigit (take 2 s) && eqb (kindOf s) k)
+KindRead s r = (k : ℕ) → 0 < k → k < 5 → eqb r k ≡ (allOf isDigit (take 2 s) && eqb (kindOf s) k)
 
 -- byte 0A stands after n bytes
 abbrev pub endsAfter : ℕ → List ℕ → Bool

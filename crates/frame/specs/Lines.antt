@@ -11,8 +11,8 @@ use lib.ListN.{length, getD, take, drop}
 use lib.Seq.{take-nil, take-take, length-take-le}
 use lib.Dec.{eqb, leb}
 use borrow.Author.Tests.{eqb-true, eq-eqb, ne-eqb}
-use Rattle.model.specs.Lists.{all}
-use Rattle.model.specs.Table.{isDigit, numberAfter, kindOf, fieldAt, Line, whole, cut, lead, lines, firstOf, firstLine, layoutFrame, jobFrame, soloFrame, endFrame, frameOfKind, frameOf}
+use Rattle.model.specs.Lists.{allOf}
+use Rattle.model.specs.Table.{isDigit, numberAfter, kindOf, fieldAt, Line, terminated, unterminated, lead, lines, firstOf, firstLine, layoutFrame, jobFrame, soloFrame, endFrame, frameOfKind, frameOf}
 use Rattle.model.specs.Answers.{frameCase, found, refusal, frameAnswer, lineAnswer}
 use Rattle.model.specs.declared.Frame.{Frame}
 use Rattle.model.specs.declared.Refusal.{Refusal}
@@ -29,7 +29,7 @@ width (endFrame n m) = 11
 
 -- n digits and then byte 0A stand at the front
 unfoldable pub digitLine : ℕ → List ℕ → Bool
-digitLine n s = all isDigit (take n s) && eqb (getD s n 0) 10
+digitLine n s = allOf isDigit (take n s) && eqb (getD s n 0) 10
 
 -- ---- lines and 0A
 
@@ -43,13 +43,13 @@ digit-not-end b e =
     ne-eqb b 10 (λ q. true≢false (sym e ∙ ap (λ (x : ℕ). leb 48 x && leb x 57 || leb 65 x && leb x 70) q))
 
 -- a line of n digits at the front is the first line, and the other lines are those after it
-lines-of-digits : (n : ℕ) (s : List ℕ) → all isDigit (take n s) ≡ true → getD s n 0 ≡ 10 → lines s ≡ whole (take n s) ∷ lines (drop (suc n) s)
-unfolding all lines lead
+lines-of-digits : (n : ℕ) (s : List ℕ) → allOf isDigit (take n s) ≡ true → getD s n 0 ≡ 10 → lines s ≡ terminated (take n s) ∷ lines (drop (suc n) s)
+unfolding allOf lines lead
 lines-of-digits zero [] d e = absurd (omega arith)
 lines-of-digits zero (b ∷ bs) d e = rw (eq-eqb b 10 e)
 lines-of-digits (suc n) [] d e = absurd (omega arith)
 lines-of-digits (suc n) (b ∷ bs) d e =
-    let p = both-true (isDigit b) (all isDigit (take n bs)) d in
+    let p = both-true (isDigit b) (allOf isDigit (take n bs)) d in
     rw (digit-not-end b (p .0), lines-of-digits n bs (p .1) e)
 
 -- l stands at the front, with 0A after it
@@ -57,24 +57,24 @@ record Leads (l s : List ℕ) : Type 0 where
   front : take (length l) s ≡ l
   end : getD s (length l) 0 ≡ 10
 
-led-by : (b : ℕ) (bs l : List ℕ) (ls : List Line) → ((l′ : List ℕ) (ls′ : List Line) → lines bs ≡ whole l′ ∷ ls′ → Leads l′ bs)
-    → (after : List Line) → lines bs ≡ after → lead b after ≡ whole l ∷ ls → Leads l (b ∷ bs)
+led-by : (b : ℕ) (bs l : List ℕ) (ls : List Line) → ((l′ : List ℕ) (ls′ : List Line) → lines bs ≡ terminated l′ ∷ ls′ → Leads l′ bs)
+    → (after : List Line) → lines bs ≡ after → lead b after ≡ terminated l ∷ ls → Leads l (b ∷ bs)
 unfolding lead
 led-by b bs l ls ih [] e q = let z : _≡_ {A = ℕ} 0 1 = cc in absurd (omega arith)
-led-by b bs l ls ih (whole l′ ∷ ls′) e q =
+led-by b bs l ls ih (terminated l′ ∷ ls′) e q =
     let p : b ∷ l′ ≡ l = cc in
     subst (λ (k : List ℕ). Leads k (b ∷ bs)) p (record { front = ap (λ (k : List ℕ). b ∷ k) (ih l′ ls′ e .front); end = ih l′ ls′ e .end })
-led-by b bs l ls ih (cut l′ ∷ ls′) e q = let z : _≡_ {A = ℕ} 0 1 = cc in absurd (omega arith)
+led-by b bs l ls ih (unterminated l′ ∷ ls′) e q = let z : _≡_ {A = ℕ} 0 1 = cc in absurd (omega arith)
 
-begun-by : (b : ℕ) (bs l : List ℕ) (ls : List Line) → ((l′ : List ℕ) (ls′ : List Line) → lines bs ≡ whole l′ ∷ ls′ → Leads l′ bs)
-    → (t : Bool) → eqb b 10 ≡ t → cond t (whole [] ∷ lines bs) (lead b (lines bs)) ≡ whole l ∷ ls → Leads l (b ∷ bs)
+begun-by : (b : ℕ) (bs l : List ℕ) (ls : List Line) → ((l′ : List ℕ) (ls′ : List Line) → lines bs ≡ terminated l′ ∷ ls′ → Leads l′ bs)
+    → (t : Bool) → eqb b 10 ≡ t → cond t (terminated [] ∷ lines bs) (lead b (lines bs)) ≡ terminated l ∷ ls → Leads l (b ∷ bs)
 begun-by b bs l ls ih true e q =
     let p : _≡_ {A = List ℕ} [] l = cc in
     subst (λ (k : List ℕ). Leads k (b ∷ bs)) p (record { front = refl; end = eqb-true b 10 e })
 begun-by b bs l ls ih false e q = led-by b bs l ls ih (lines bs) refl q
 
 -- a whole first line stands at the front, with 0A after it
-whole-line-leads : (s l : List ℕ) (ls : List Line) → lines s ≡ whole l ∷ ls → Leads l s
+whole-line-leads : (s l : List ℕ) (ls : List Line) → lines s ≡ terminated l ∷ ls → Leads l s
 unfolding lines
 whole-line-leads [] l ls q = let z : _≡_ {A = ℕ} 0 1 = cc in absurd (omega arith)
 whole-line-leads (b ∷ bs) l ls q = begun-by b bs l ls (whole-line-leads bs) (eqb b 10) refl q
@@ -122,20 +122,20 @@ other-digits l h k = rw (ne-eqb (length l) 6 h, ne-eqb (length l) 10 k) (simp an
 module _ (n : ℕ) (s : List ℕ) (h : digitLine n s ≡ true) where
   pub digit-line-within : n < length s
   unfolding digitLine
-  digit-line-within = end-within s n (eqb-true (getD s n 0) 10 (both-true (all isDigit (take n s)) (eqb (getD s n 0) 10) h .1))
+  digit-line-within = end-within s n (eqb-true (getD s n 0) 10 (both-true (allOf isDigit (take n s)) (eqb (getD s n 0) 10) h .1))
 
   -- the lines after it
   digit-line-first : lines s ≡ firstLine s ∷ lines (drop (suc n) s)
   unfolding digitLine firstLine
   digit-line-first =
-      let p = both-true (all isDigit (take n s)) (eqb (getD s n 0) 10) h in
+      let p = both-true (allOf isDigit (take n s)) (eqb (getD s n 0) 10) h in
       rw (lines-of-digits n s (p .0) (eqb-true (getD s n 0) 10 (p .1)))
 
   -- its frame
   digit-line-frame : frameOf (firstLine s) ≡ frameOfKind (take n s)
   unfolding digitLine firstLine frameOf
   digit-line-frame =
-      let p = both-true (all isDigit (take n s)) (eqb (getD s n 0) 10) h in
+      let p = both-true (allOf isDigit (take n s)) (eqb (getD s n 0) 10) h in
       rw (lines-of-digits n s (p .0) (eqb-true (getD s n 0) 10 (p .1)), p .0)
 
 -- 6 digits and 0A: a layout or no frame
@@ -154,7 +154,7 @@ long-line s h =
 
 -- ---- no such line
 
-line-length : (s l : List ℕ) (ls : List Line) (n : ℕ) → lines s ≡ whole l ∷ ls → all isDigit l ≡ true → length l ≡ n → digitLine n s ≡ true
+line-length : (s l : List ℕ) (ls : List Line) (n : ℕ) → lines s ≡ terminated l ∷ ls → allOf isDigit l ≡ true → length l ≡ n → digitLine n s ≡ true
 unfolding digitLine
 line-length s l ls n e d q =
     let p = whole-line-leads s l ls e in
@@ -165,10 +165,10 @@ line-length s l ls n e d q =
 no-frame-in : (s : List ℕ) → digitLine 6 s ≡ false → digitLine 10 s ≡ false → (ls : List Line) → lines s ≡ ls → frameOf (firstOf ls) ≡ none
 unfolding frameOf
 no-frame-in s short long [] e = refl
-no-frame-in s short long (cut l ∷ ls) e = refl
-no-frame-in s short long (whole l ∷ ls) e = go (all isDigit l) refl
+no-frame-in s short long (unterminated l ∷ ls) e = refl
+no-frame-in s short long (terminated l ∷ ls) e = go (allOf isDigit l) refl
   where
-    go : (t : Bool) → all isDigit l ≡ t → cond t (frameOfKind l) none ≡ none
+    go : (t : Bool) → allOf isDigit l ≡ t → cond t (frameOfKind l) none ≡ none
     go false d = refl
     go true d =
         other-digits l
@@ -216,8 +216,8 @@ next-line s f e = short (digitLine 6 s) refl
 lead-first : (b : ℕ) (ls : List Line) → (rest : List Line) × (lead b ls ≡ firstOf (lead b ls) ∷ rest)
 unfolding lead
 lead-first b [] = ([], refl)
-lead-first b (whole l ∷ ls) = (ls, refl)
-lead-first b (cut l ∷ ls) = (ls, refl)
+lead-first b (terminated l ∷ ls) = (ls, refl)
+lead-first b (unterminated l ∷ ls) = (ls, refl)
 
 -- where bytes are left there is a first line
 pub some-line : (s : List ℕ) → 0 < length s → (rest : List Line) × (lines s ≡ firstLine s ∷ rest)
@@ -225,7 +225,7 @@ unfolding lines firstLine
 some-line [] h = absurd (omega arith)
 some-line (b ∷ bs) h = go (eqb b 10)
   where
-    go : (t : Bool) → (rest : List Line) × (cond t (whole [] ∷ lines bs) (lead b (lines bs)) ≡ firstOf (cond t (whole [] ∷ lines bs) (lead b (lines bs))) ∷ rest)
+    go : (t : Bool) → (rest : List Line) × (cond t (terminated [] ∷ lines bs) (lead b (lines bs)) ≡ firstOf (cond t (terminated [] ∷ lines bs) (lead b (lines bs))) ∷ rest)
     go true = (lines bs, refl)
     go false = lead-first b (lines bs)
 

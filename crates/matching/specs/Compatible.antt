@@ -5,8 +5,8 @@ use mathlib.Core.Path.{_≡_, refl, _∙_}
 use mathlib.Core.Bool.{true, not, _&&_, and-comm}
 use Rattle.model.specs.Jobs.{Table, jobs, solo, shares, topDepth}
 use Rattle.model.specs.Greedy.{compatible}
-use Rattle.tree.specs.WellFormed.{Tree}
-use Rattle.tree.specs.Sharing.{Downward, shares-symmetric, strong-elimination}
+use Rattle.tree_laws.specs.WellFormed.{Tree}
+use Rattle.tree_laws.specs.Sharing.{Downward, shares-symmetric, strong-elimination}
 use Rattle.matching.specs.Lists.{and-both}
 use Rattle.matching.specs.Maximum.{StrongElimination}
 

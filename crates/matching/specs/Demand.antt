@@ -8,15 +8,15 @@ use mathlib.Core.List.{List, List·Memᴰ as Mem}
 use lib.ListN.{length, take, drop, take-append-drop}
 use lib.Dec.{ltb}
 use borrow.Author.Tests.{ltb-true, lt-ltb, le-ltb}
-use Rattle.model.specs.Lists.{count, select, total}
+use Rattle.model.specs.Lists.{countWhere, select, total}
 use Rattle.model.specs.Jobs.{Table, jobs, jobLimit, solo, shares, topDepth}
 use Rattle.model.specs.Order.{runningOrder, place}
 use Rattle.model.specs.Greedy.{greedy, compatible, passes}
 use Rattle.model.specs.Rival.{Pair, Disjoint, Rules, Rival, inFront, pairsInFront, pairsOf}
 use Rattle.model.specs.Planning.{pairCount, partners}
-use Rattle.tree.specs.Lists.{mem-all}
-use Rattle.tree.specs.WellFormed.{Tree}
-use Rattle.tree.specs.Sharing.{Downward}
+use Rattle.tree_laws.specs.Lists.{mem-all}
+use Rattle.tree_laws.specs.WellFormed.{Tree}
+use Rattle.tree_laws.specs.Sharing.{Downward}
 use Rattle.matching.specs.Lists.{and-both, T-true, all-imply, selected-all, selected-pairwise}
 use Rattle.matching.specs.Compatible.{true-compatible, compatible-eliminates}
 use Rattle.matching.specs.Counting.{count-length}
@@ -41,7 +41,7 @@ module _ (tb : Table) (m : ℕ) where
       inside j = ltb (place tb j) m
 
   -- and as many
-  pub front-count : count (inFront tb m) (pairsIn (passes tb)) ≡ total pairCount (greedy (compatible tb) (take m (runningOrder tb)))
+  pub front-count : countWhere (inFront tb m) (pairsIn (passes tb)) ≡ total pairCount (greedy (compatible tb) (take m (runningOrder tb)))
   front-count = count-length (inFront tb m) (pairsIn (passes tb)) ∙ ap length front-pairs ∙ pairs-length (greedy (compatible tb) (take m (runningOrder tb)))
 
   -- as many pairs lie in front of the cut as are selected so

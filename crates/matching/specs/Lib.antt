@@ -11,4 +11,4 @@ pub mod Compatible
 pub mod Partners
 pub mod Demand
 pub mod Singles
-pub mod Foremost
+pub mod MaximumAtEveryCut

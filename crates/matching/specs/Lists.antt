@@ -11,9 +11,9 @@ use native.Mathlib.Omega.{arith}
 use lib.ListN.{length}
 use lib.Dec.{T, eqb}
 use borrow.Author.Tests.{eqb-false, eq-eqb, ne-eqb, not-true}
-use Rattle.model.specs.Lists.{select, find, All, Pairwise}
+use Rattle.model.specs.Lists.{select, find, All, AllPairs}
 use Rattle.model.specs.Greedy.{without}
-use Rattle.tree.specs.Lists.{Distinct, answers, all-mem, mem-all, select-all, select-mem, mem-select, select-pairwise}
+use Rattle.tree_laws.specs.Lists.{Distinct, answers, all-mem, mem-all, select-all, select-mem, mem-select, select-pairwise}
 
 -- both parts of a test that passes pass
 pub and-both : (a b : Bool) → (a && b) ≡ true → (a ≡ true) × (b ≡ true)
@@ -63,7 +63,7 @@ map-mem f (here e) = here (ap f e)
 map-mem f (there m) = there (map-mem f m)
 
 -- and keeps what holds of earlier and later ones by way of f
-pub map-pairwise : {A B : Type 0} (f : A → B) (R : B → B → Type 0) (l : List A) → Pairwise (λ (x y : A). R (f x) (f y)) l → Pairwise R (map f l)
+pub map-pairwise : {A B : Type 0} (f : A → B) (R : B → B → Type 0) (l : List A) → AllPairs (λ (x y : A). R (f x) (f y)) l → AllPairs R (map f l)
 map-pairwise f R [] a = tt
 map-pairwise f R (x ∷ xs) a = (map-all f (R (f x)) xs (a .0), map-pairwise f R xs (a .1))
 
@@ -86,7 +86,7 @@ module _ {A : Type 0} (p : A → Bool) where
       (answers (p x))
 
   -- and what held of earlier and later members
-  pub selected-pairwise : (R : A → A → Type 0) (l : List A) → Pairwise R l → Pairwise R (select p l)
+  pub selected-pairwise : (R : A → A → Type 0) (l : List A) → AllPairs R l → AllPairs R (select p l)
   unfolding select
   selected-pairwise R [] s = tt
   selected-pairwise R (x ∷ xs) s = ⊎-elim
@@ -124,7 +124,7 @@ module _ (p : ℕ → Bool) where
       (answers (p y))
 
   -- what is found comes before the others that pass
-  pub find-first : (R : ℕ → ℕ → Type 0) {l : List ℕ} {j x : ℕ} → Pairwise R l → Mem x l → find p l ≡ some j → p x ≡ true → (x ≡ j) ⊎ R j x
+  pub find-first : (R : ℕ → ℕ → Type 0) {l : List ℕ} {j x : ℕ} → AllPairs R l → Mem x l → find p l ≡ some j → p x ≡ true → (x ≡ j) ⊎ R j x
   unfolding find
   find-first R {j = j} {x = x} s (here {x = y} {xs = ys} e) f t = inl (let passed : p y ≡ true = ap p (sym e) ∙ t in cc)
   find-first R {j = j} {x = x} s (there {x = y} {xs = ys} m) f t = ⊎-elim
@@ -163,7 +163,7 @@ unfolding without
 mem-without {x} j m h = mem-select (λ (v : ℕ). not (eqb v j)) m (ap not (ne-eqb x j h))
 
 -- the others keep their order
-pub without-pairwise : (R : ℕ → ℕ → Type 0) (j : ℕ) (l : List ℕ) → Pairwise R l → Pairwise R (without j l)
+pub without-pairwise : (R : ℕ → ℕ → Type 0) (j : ℕ) (l : List ℕ) → AllPairs R l → AllPairs R (without j l)
 unfolding without
 without-pairwise R j l s = select-pairwise (λ (v : ℕ). not (eqb v j)) R l s
 

@@ -10,11 +10,11 @@ use mathlib.Core.List.{List, [], _∷_, List·Memᴰ as Mem, List·Memᴰ·tail 
 use native.Mathlib.Decide.{ℕ-discrete}
 use native.Mathlib.Omega.{arith}
 use lib.ListN.{length}
-use Rattle.model.specs.Lists.{find, total, All, Pairwise}
+use Rattle.model.specs.Lists.{find, total, All, AllPairs}
 use Rattle.model.specs.Greedy.{without, turn, turns, greedy}
 use Rattle.model.specs.Rival.{Pair, Disjoint}
 use Rattle.model.specs.Planning.{pairCount}
-use Rattle.tree.specs.Lists.{all-mem, mem-all}
+use Rattle.tree_laws.specs.Lists.{all-mem, mem-all}
 use Rattle.matching.specs.Lists.{mem-rest, found-or-none, find-some, find-none, find-first, without-mem, mem-without, without-pairwise, without-length}
 
 -- a test of two vertices, of those that `Vertex` holds of, that eliminates strongly in the order of falling D (000, Definition 11)
@@ -88,7 +88,7 @@ module _ (Vertex : ℕ → Type 0) (D : ℕ → ℕ) (fit : ℕ → ℕ → Bool
       )
 
   -- the turn of v, where j is found among the later vertices vs
-  module _ (v : ℕ) (vs : List ℕ) (known : All Vertex (v ∷ vs)) (falls : Pairwise (Falls D) (v ∷ vs)) (j : ℕ) (found : find (fit v) vs ≡ some j) where
+  module _ (v : ℕ) (vs : List ℕ) (known : All Vertex (v ∷ vs)) (falls : AllPairs (Falls D) (v ∷ vs)) (j : ℕ) (found : find (fit v) vs ≡ some j) where
     -- the vertices at the turn of v
     abbrev Now : ℕ → Type 0
     Now z = Mem z (v ∷ vs)
@@ -156,7 +156,7 @@ module _ (Vertex : ℕ → Type 0) (D : ℕ → ℕ) (fit : ℕ → ℕ → Bool
   none-left (p ∷ ps) m = absurd (not-nil (m .0 .one-in))
 
   -- by induction on the turns: a turn takes one pair off, and leaves the others possible
-  turns-maximum : (n : ℕ) (vs : List ℕ) → length vs ≤ n → All Vertex vs → Pairwise (Falls D) vs → (ps : List Pair) → Matching fit (λ (z : ℕ). Mem z vs) ps → length ps ≤ total pairCount (turns n fit vs)
+  turns-maximum : (n : ℕ) (vs : List ℕ) → length vs ≤ n → All Vertex vs → AllPairs (Falls D) vs → (ps : List Pair) → Matching fit (λ (z : ℕ). Mem z vs) ps → length ps ≤ total pairCount (turns n fit vs)
   unfolding turns turn total pairCount
   turns-maximum zero [] h known falls ps m = none-left ps m
   turns-maximum zero (v ∷ vs) h known falls ps m = absurd (omega arith)
@@ -171,7 +171,7 @@ module _ (Vertex : ℕ → Type 0) (D : ℕ → ℕ) (fit : ℕ → ℕ → Bool
       (found-or-none (find (fit v) vs))
 
   -- pairs without a common vertex take their vertices out one after the other
-  take-out : (P : ℕ → Type 0) (ps : List Pair) → All (Fits fit P) ps → Pairwise Disjoint ps → Matching fit P ps
+  take-out : (P : ℕ → Type 0) (ps : List Pair) → All (Fits fit P) ps → AllPairs Disjoint ps → Matching fit P ps
   take-out P [] a d = tt
   take-out P (p ∷ ps) a d = (a .0, take-out (Without P (p .one) (p .other)) ps (others ps (a .1) (d .0)) (d .1))
     where
@@ -191,10 +191,10 @@ module _ (Vertex : ℕ → Type 0) (D : ℕ → ℕ) (fit : ℕ → ℕ → Bool
   pub greedy-maximum :
       (vs : List ℕ)
       → All Vertex vs
-      → Pairwise (Falls D) vs
+      → AllPairs (Falls D) vs
       → (ps : List Pair)
       → All (Fits fit (λ (z : ℕ). Mem z vs)) ps
-      → Pairwise Disjoint ps
+      → AllPairs Disjoint ps
       → length ps ≤ total pairCount (greedy fit vs)
   unfolding greedy
   greedy-maximum vs known falls ps a d = turns-maximum (length vs) vs (omega arith) known falls ps (take-out (λ (z : ℕ). Mem z vs) ps a d)

@@ -10,19 +10,19 @@ use native.Mathlib.Omega.{arith}
 use lib.ListN.{length, getD}
 use lib.Dec.{ltb}
 use borrow.Author.Tests.{ltb-true, lt-ltb, le-ltb, eq-eqb, ne-eqb}
-use Rattle.model.specs.Lists.{numbers, count, select, All, Pairwise}
+use Rattle.model.specs.Lists.{numbers, countWhere, select, All, AllPairs}
 use Rattle.model.specs.Tree.{FFFF}
 use Rattle.model.specs.Jobs.{Table, jobs, jobLimit}
 use Rattle.model.specs.Order.{runningOrder, place}
 use Rattle.model.specs.Greedy.{Pass, pair, single, compatible, passes}
 use Rattle.model.specs.Rival.{Pair, Disjoint, Rules, Rival, inFront, pairsInFront, pairsOf}
 use Rattle.model.specs.Planning.{partnerIn, partners, pairs, singles}
-use Rattle.tree.specs.Lists.{Distinct, all-mem, mem-all, pairwise-imply, select-mem, mem-select, select-pairwise}
+use Rattle.tree_laws.specs.Lists.{Distinct, all-mem, mem-all, pairwise-imply, select-mem, mem-select, select-pairwise}
 use Rattle.matching.specs.Compatible.{compatible-true, compatible-symmetric}
 use Rattle.matching.specs.Counting.{count-length-all, count-agree, count-none, count-all, count-select, count-map, count-at}
 use Rattle.matching.specs.Passes.{pairsIn, vertices, pairs-length, greedy-distinct, greedy-mem, mem-greedy, greedy-count, greedy-fits, greedy-places}
 use Rattle.matching.specs.Lists.{and-both, true-T, all-member, member-all, map-all, map-mem, map-pairwise}
-use Rattle.tree.specs.Numbers.{mem-numbers, numbers-mem, numbers-at, numbers-rise, numbers-distinct}
+use Rattle.tree_laws.specs.Numbers.{mem-numbers, numbers-mem, numbers-at, numbers-rise, numbers-distinct}
 use Rattle.matching.specs.RunningOrder.{running-mem, mem-running, running-length, running-distinct, place-lt}
 
 -- i and j are a pair of the passes, in one order or the other
@@ -120,7 +120,7 @@ abbrev shown : (ℕ → ℕ) → ℕ → (Pair → Bool) → ℕ → Bool
 shown f n q i = ltb i (f i) && ltb (f i) n && q (record { one = i; other = f i })
 
 -- the pairs read from a buffer are counted at its cells
-read-cells : (n : ℕ) (cells : List ℕ) (q : Pair → Bool) → count q (pairsOf n cells) ≡ count (shown (λ (i : ℕ). getD cells i FFFF) n q) (numbers n)
+read-cells : (n : ℕ) (cells : List ℕ) (q : Pair → Bool) → countWhere q (pairsOf n cells) ≡ countWhere (shown (λ (i : ℕ). getD cells i FFFF) n q) (numbers n)
 unfolding pairsOf
 read-cells n cells q =
     let f : ℕ → ℕ = λ i. getD cells i FFFF in
@@ -148,15 +148,15 @@ module _ (n : ℕ) (small : n ≤ FFFF) (q : Pair → Bool) (turned : (i j : ℕ
       | no k ↦ ap (λ (j : ℕ). ltb i j && ltb j n && q (record { one = i; other = j })) (same i h k)
     ]
 
-    shown-more : count (shown f n q) (numbers n) ≡ cond (q (record { one = s; other = t })) (suc (count (shown g n q) (numbers n))) (count (shown g n q) (numbers n))
+    shown-more : countWhere (shown f n q) (numbers n) ≡ cond (q (record { one = s; other = t })) (suc (countWhere (shown g n q) (numbers n))) (countWhere (shown g n q) (numbers n))
     shown-more =
-        let rest : ℕ = count (shown g n q) (numbers n) in
+        let rest : ℕ = countWhere (shown g n q) (numbers n) in
         count-at (shown f n q) (shown g n q) (numbers-distinct n) (mem-numbers s n (omega arith)) (shown-none g s g-s) shown-same
         ∙ ap (λ (b : Bool). cond b (suc rest) rest) (shown-smaller f s t f-s less known)
 
   -- each pair of the passes is shown once, by its smaller number
-  read-passes : (ps : List Pass) → Distinct (vertices ps) → All (λ (k : ℕ). k < n) (vertices ps) → count (shown (partnerIn ps) n q) (numbers n) ≡ count q (pairsIn ps)
-  unfolding vertices pairsIn count partnerIn
+  read-passes : (ps : List Pass) → Distinct (vertices ps) → All (λ (k : ℕ). k < n) (vertices ps) → countWhere (shown (partnerIn ps) n q) (numbers n) ≡ countWhere q (pairsIn ps)
+  unfolding vertices pairsIn countWhere partnerIn
   read-passes [] d known = count-none (shown (partnerIn []) n q) (numbers n) (mem-all (λ (i : ℕ). shown (partnerIn []) n q i ≡ false) (numbers n) (λ i m. shown-none (partnerIn []) i refl))
   read-passes (single a ∷ ps) d known = read-passes ps (d .1) (known .1)
   read-passes (pair a b ∷ ps) d known = rw (← read-passes ps (d .1 .1) (known .1 .1)) (elim (decLt a b) [
@@ -208,7 +208,7 @@ module _ (n : ℕ) (cells : List ℕ) where
   read-mem i h l k = map-mem (λ (i : ℕ). record { one = i; other = cell cells i }) (mem-select ours (mem-numbers i n h) (rw (lt-ltb i (cell cells i) l, lt-ltb (cell cells i) n k) refl))
 
   -- pairs read from cells that tell each other have no number in common
-  read-disjoint : ((i : ℕ) → i < n → cell cells i < n → cell cells (cell cells i) ≡ i) → Pairwise Disjoint (pairsOf n cells)
+  read-disjoint : ((i : ℕ) → i < n → cell cells i < n → cell cells (cell cells i) ≡ i) → AllPairs Disjoint (pairsOf n cells)
   unfolding pairsOf
   read-disjoint back = map-pairwise (λ (i : ℕ). record { one = i; other = cell cells i }) Disjoint (select ours (numbers n))
       (pairwise-imply _<_ (λ (i j : ℕ). Disjoint (record { one = i; other = cell cells i }) (record { one = j; other = cell cells j })) (select ours (numbers n)) apart
@@ -339,7 +339,7 @@ module _ (tb : Table) where
         rw (← is) (read-mem (jobs tb) (partners tb) i (known i (v .0)) (rw is l) (rw is (known j (v .1))))
 
     -- as many of them pass a test of pairs as of the pairs of the passes
-    pub our-pairs-count : (q : Pair → Bool) → ((i j : ℕ) → q (record { one = i; other = j }) ≡ q (record { one = j; other = i })) → count q (pairsOf (jobs tb) (partners tb)) ≡ count q (pairsIn (passes tb))
+    pub our-pairs-count : (q : Pair → Bool) → ((i j : ℕ) → q (record { one = i; other = j }) ≡ q (record { one = j; other = i })) → countWhere q (pairsOf (jobs tb) (partners tb)) ≡ countWhere q (pairsIn (passes tb))
     our-pairs-count q turned =
         read-cells (jobs tb) (partners tb) q
         ∙ count-agree (shown (cell (partners tb)) (jobs tb) q) (shown (partnerIn (passes tb)) (jobs tb) q) (numbers (jobs tb))
@@ -353,7 +353,7 @@ module _ (tb : Table) where
     our-pairs-length = sym (count-length-all (pairsOf (jobs tb) (partners tb))) ∙ our-pairs-count (λ (p : Pair). true) (λ i j. refl) ∙ count-length-all (pairsIn (passes tb)) ∙ pairs-length (passes tb)
 
     -- in front of cut m lie as many of them as of the pairs of the passes
-    pub our-pairs-in-front : (m : ℕ) → pairsInFront tb m (pairsOf (jobs tb) (partners tb)) ≡ count (inFront tb m) (pairsIn (passes tb))
+    pub our-pairs-in-front : (m : ℕ) → pairsInFront tb m (pairsOf (jobs tb) (partners tb)) ≡ countWhere (inFront tb m) (pairsIn (passes tb))
     unfolding pairsInFront inFront
     our-pairs-in-front m = our-pairs-count (inFront tb m) (λ i j. and-comm (ltb (place tb i) m) (ltb (place tb j) m))
 

@@ -9,11 +9,11 @@ use mathlib.Core.List.{List, [], _∷_, List·Memᴰ as Mem, List·Memᴰ·head 
 use native.Mathlib.Decide.{ℕ-discrete}
 use native.Mathlib.Omega.{arith}
 use lib.ListN.{length}
-use Rattle.model.specs.Lists.{indexOf, find, total, All, Pairwise}
+use Rattle.model.specs.Lists.{indexOf, find, total, All, AllPairs}
 use Rattle.model.specs.Greedy.{Pass, pair, single, without, turn, turns, greedy}
 use Rattle.model.specs.Rival.{Pair}
 use Rattle.model.specs.Planning.{pairCount, singleCount}
-use Rattle.tree.specs.Lists.{Distinct, all-mem, mem-all}
+use Rattle.tree_laws.specs.Lists.{Distinct, all-mem, mem-all}
 use Rattle.matching.specs.Lists.{found-or-none, find-some, without-mem, mem-without, without-pairwise, without-length, without-one}
 use Rattle.matching.specs.Places.{index-rises}
 
@@ -168,7 +168,7 @@ module _ (fit : ℕ → ℕ → Bool) where
   run-fits (alone e r) = run-fits r
 
   -- the first of a pair stands before the second: what holds of every vertex and each later one holds of them
-  pub run-before : (R : ℕ → ℕ → Type 0) {vs : List ℕ} {ps : List Pass} → Run vs ps → Pairwise R vs → All (λ (p : Pair). R (p .one) (p .other)) (pairsIn ps)
+  pub run-before : (R : ℕ → ℕ → Type 0) {vs : List ℕ} {ps : List Pass} → Run vs ps → AllPairs R vs → All (λ (p : Pair). R (p .one) (p .other)) (pairsIn ps)
   unfolding pairsIn
   run-before R done s = tt
   run-before R (joined {v = v} {j = j} {vs = vs} e r) s = (all-mem (R v) (s .0) (find-some (fit v) vs e .0), run-before R r (without-pairwise R j vs (s .1)))
@@ -197,7 +197,7 @@ module _ (fit : ℕ → ℕ → Bool) where
   greedy-fits vs = run-fits (greedy-run vs)
 
   -- and the first of a pair stands before the second
-  pub greedy-before : (R : ℕ → ℕ → Type 0) (vs : List ℕ) → Pairwise R vs → All (λ (p : Pair). R (p .one) (p .other)) (pairsIn (greedy fit vs))
+  pub greedy-before : (R : ℕ → ℕ → Type 0) (vs : List ℕ) → AllPairs R vs → All (λ (p : Pair). R (p .one) (p .other)) (pairsIn (greedy fit vs))
   greedy-before R vs s = run-before R (greedy-run vs) s
 
   -- as the places in the list say

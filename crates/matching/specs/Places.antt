@@ -9,8 +9,8 @@ use native.Mathlib.Omega.{arith}
 use lib.ListN.{length, getD, take, drop, take-append-drop}
 use lib.Dec.{eqb}
 use borrow.Author.Tests.{eqb-true, eqb-false, eq-eqb, ne-eqb}
-use Rattle.model.specs.Lists.{indexOf, Pairwise}
-use Rattle.tree.specs.Lists.{Distinct, answers, all-mem, mem-all, pairwise-imply}
+use Rattle.model.specs.Lists.{indexOf, AllPairs}
+use Rattle.tree_laws.specs.Lists.{Distinct, answers, all-mem, mem-all, pairwise-imply}
 use Rattle.matching.specs.Lists.{mem-rest}
 
 -- the first member stands at place 0
@@ -65,7 +65,7 @@ pub index-injective : {i j : ℕ} {l : List ℕ} → Mem i l → Mem j l → ind
 index-injective {i} {j} {l} m n e = sym (getD-index 0 m) ∙ ap (λ (k : ℕ). getD l k 0) e ∙ getD-index 0 n
 
 -- places rise along a list without repeats
-pub index-rises : (l : List ℕ) → Distinct l → Pairwise (λ (x y : ℕ). indexOf x l < indexOf y l) l
+pub index-rises : (l : List ℕ) → Distinct l → AllPairs (λ (x y : ℕ). indexOf x l < indexOf y l) l
 index-rises [] d = tt
 index-rises (x ∷ xs) d = (
   mem-all (λ (y : ℕ). indexOf x (x ∷ xs) < indexOf y (x ∷ xs)) xs (λ y m. omega (arith, index-here {j = x} xs refl, index-there xs (differs y m))),
@@ -105,7 +105,7 @@ pub drop-mem : {j : ℕ} (m : ℕ) (l : List ℕ) → Mem j (drop m l) → Mem j
 drop-mem m l n = rw take-append-drop at (mem-right (take m l) n)
 
 -- and the first m members keep what held of earlier and later ones
-pub take-pairwise : (R : ℕ → ℕ → Type 0) (m : ℕ) (l : List ℕ) → Pairwise R l → Pairwise R (take m l)
+pub take-pairwise : (R : ℕ → ℕ → Type 0) (m : ℕ) (l : List ℕ) → AllPairs R l → AllPairs R (take m l)
 take-pairwise R zero l s = tt
 take-pairwise R (suc m) [] s = tt
 take-pairwise R (suc m) (x ∷ xs) s = (mem-all (R x) (take m xs) (λ y n. all-mem (R x) (s .0) (take-mem m xs n)), take-pairwise R m xs (s .1))

@@ -10,11 +10,11 @@ use native.Mathlib.Omega.{arith}
 use lib.ListN.{length}
 use lib.Dec.{eqb}
 use borrow.Author.Tests.{eq-eqb, ne-eqb}
-use Rattle.model.specs.Lists.{numbers, count, any, All, Pairwise}
+use Rattle.model.specs.Lists.{numbers, countWhere, anyOf, All, AllPairs}
 use Rattle.model.specs.Jobs.{Table, jobs, jobLimit}
 use Rattle.model.specs.Rival.{Pair, Disjoint, Rules, Rival, pairsOf, inPair, singlesOf, passesOf}
 use Rattle.model.specs.Planning.{partners, pairs, singles}
-use Rattle.tree.specs.Numbers.{mem-numbers, numbers-distinct, numbers-length}
+use Rattle.tree_laws.specs.Numbers.{mem-numbers, numbers-distinct, numbers-length}
 use Rattle.matching.specs.Lists.{all-imply}
 use Rattle.matching.specs.Counting.{count-at, count-length-all}
 use Rattle.matching.specs.Partners.{jobs-counted, our-pairs, our-pairs-length}
@@ -33,7 +33,7 @@ spared ps s j = not (eqb j s || inPair ps j)
 
 -- a job outside every pair stands in none
 pub outside-alone : (ps : List Pair) (j : ℕ) → All (Outside j) ps → inPair ps j ≡ false
-unfolding inPair any
+unfolding inPair anyOf
 outside-alone [] j a = refl
 outside-alone (p ∷ ps) j a = rw (ne-eqb j (p .one) (a .0 .0), ne-eqb j (p .other) (a .0 .1)) (outside-alone ps j (a .1))
 
@@ -47,9 +47,9 @@ module _ (p : Pair) (ps : List Pair) (apart : All (Disjoint p) ps) where
 
   module _ (n : ℕ) (one-known : p .one < n) (other-known : p .other < n) (differ : p .one ≢ p .other) where
     -- one of the pair is one less alone
-    one-taken : count (alone ps) (numbers n) ≡ suc (count (spared ps (p .one)) (numbers n))
+    one-taken : countWhere (alone ps) (numbers n) ≡ suc (countWhere (spared ps (p .one)) (numbers n))
     one-taken =
-        let left : ℕ = count (spared ps (p .one)) (numbers n) in
+        let left : ℕ = countWhere (spared ps (p .one)) (numbers n) in
         count-at (alone ps) (spared ps (p .one)) (numbers-distinct n) (mem-numbers (p .one) n one-known)
         (rw (eq-eqb (p .one) (p .one) refl) refl)
         (λ i h. rw (ne-eqb i (p .one) h) refl)
@@ -60,18 +60,18 @@ module _ (p : Pair) (ps : List Pair) (apart : All (Disjoint p) ps) where
     other-spared = rw (ne-eqb (p .other) (p .one) (λ e. differ (sym e)), other-alone) refl
 
     -- and is one less again
-    other-taken : count (spared ps (p .one)) (numbers n) ≡ suc (count (alone (p ∷ ps)) (numbers n))
-    unfolding inPair any
+    other-taken : countWhere (spared ps (p .one)) (numbers n) ≡ suc (countWhere (alone (p ∷ ps)) (numbers n))
+    unfolding inPair anyOf
     other-taken =
-        let left : ℕ = count (alone (p ∷ ps)) (numbers n) in
+        let left : ℕ = countWhere (alone (p ∷ ps)) (numbers n) in
         count-at (spared ps (p .one)) (alone (p ∷ ps)) (numbers-distinct n) (mem-numbers (p .other) n other-known)
         (rw (ne-eqb (p .other) (p .one) (λ e. differ (sym e)), eq-eqb (p .other) (p .other) refl) refl)
         (λ i h. rw (ne-eqb i (p .other) h, or-false) refl)
         ∙ ap (λ (b : Bool). cond b (suc left) left) other-spared
 
 -- without pairs all are alone
-none-taken : (n : ℕ) → count (alone []) (numbers n) ≡ n
-unfolding inPair any
+none-taken : (n : ℕ) → countWhere (alone []) (numbers n) ≡ n
+unfolding inPair anyOf
 none-taken n = count-length-all (numbers n) ∙ numbers-length n
 
 -- two for each pair, and the jobs in no pair: all of them
@@ -79,7 +79,7 @@ pub singles-and-pairs : (tb : Table) (ps : List Pair) → Rival tb ps → single
 unfolding singlesOf
 singles-and-pairs tb ps rival = counted ps (rival .keep) (rival .once)
   where
-    counted : (ps : List Pair) → All (Rules tb) ps → Pairwise Disjoint ps → count (alone ps) (numbers (jobs tb)) + 2 * length ps ≡ jobs tb
+    counted : (ps : List Pair) → All (Rules tb) ps → AllPairs Disjoint ps → countWhere (alone ps) (numbers (jobs tb)) + 2 * length ps ≡ jobs tb
     counted [] keep once = omega (arith, none-taken (jobs tb))
     counted (p ∷ ps) keep once =
         let r : Rules tb p = keep .0 in

@@ -4,9 +4,9 @@ use Prim.Native.Nat.{ℕ}
 use mathlib.Core.Path.{_≡_, refl}
 use mathlib.Core.List.{List, [], _∷_, _++_, map, flatMap, headD}
 use lib.ListN.{length, getD}
-use Rattle.model.specs.Lists.{numbersFrom, numbers, elem, indexOf, lastD, any, all, select, count, find, total, insertBy, sortBy}
+use Rattle.model.specs.Lists.{numbersFrom, numbers, elem, indexOf, lastD, anyOf, allOf, select, countWhere, find, total, insertBy, sortBy}
 use Rattle.model.specs.Verdict.{Verdict, accepted, refused}
-use Rattle.model.specs.Tree.{FFFF, rightParent, layoutsFrom, treeVerdict, climb, chain, above, depth, children, orSelf, leavesWithin, leaves, firstLeaf, lastLeaf}
+use Rattle.model.specs.Tree.{FFFF, rightParent, layoutsFrom, treeVerdict, ascend, ancestors, ancestorOrSelf, depth, children, orSelf, leavesWithin, leaves, firstLeaf, lastLeaf}
 use Rattle.model.specs.Jobs.{Table, solo, upTo, pathFrom, path, shares, deepestShared, topDepth, bottomLeaf, jobVerdict}
 use Rattle.model.specs.Order.{earlier, runningOrder, place, leftward, slotOrder, slot}
 use Rattle.model.specs.Greedy.{Pass, pair, single, without, turn, turns, greedy, compatible, passes}
@@ -96,7 +96,7 @@ examples =
     ∷ []
 
 examples-hold : map planned examples ≡ map (λ (e : Example). e .expected) examples
-unfolding numbersFrom numbers elem indexOf lastD any all select count find total insertBy sortBy rightParent layoutsFrom treeVerdict climb chain above depth children orSelf leavesWithin leaves firstLeaf lastLeaf solo upTo pathFrom path shares deepestShared topDepth bottomLeaf jobVerdict earlier runningOrder place leftward slotOrder slot without turn turns greedy compatible passes levelsFrom levels cellVisits visits askedFrom askedTo lookupVisits passVisits cellCount lentVerdict jobsVerdict planVerdict partnerIn pairCount singleCount partners printed layouts pairs singles passNumbers outcome _-_ _solo_ tableOf planned F bakehouse examples flatMap headD
+unfolding numbersFrom numbers elem indexOf lastD anyOf allOf select countWhere find total insertBy sortBy rightParent layoutsFrom treeVerdict ascend ancestors ancestorOrSelf depth children orSelf leavesWithin leaves firstLeaf lastLeaf solo upTo pathFrom path shares deepestShared topDepth bottomLeaf jobVerdict earlier runningOrder place leftward slotOrder slot without turn turns greedy compatible passes levelsFrom levels cellVisits visits askedFrom askedTo lookupVisits passVisits cellCount lentVerdict jobsVerdict planVerdict partnerIn pairCount singleCount partners printed layouts pairs singles passNumbers outcome _-_ _solo_ tableOf planned F bakehouse examples flatMap headD
 examples-hold = refl
 
 -- ---- from bytes to bytes
@@ -145,10 +145,10 @@ printings =
     ∷ []
 
 printings-hold : map (λ (e : Printing). runBytes (flatMap spelled (e .table))) printings ≡ map (λ (e : Printing). flatMap spelled (e .printed)) printings
-unfolding numbersFrom numbers elem indexOf lastD any all select count find total insertBy sortBy rightParent layoutsFrom treeVerdict climb chain above depth children orSelf leavesWithin leaves firstLeaf lastLeaf solo upTo pathFrom path shares deepestShared topDepth bottomLeaf jobVerdict earlier runningOrder place leftward slotOrder slot without turn turns greedy compatible passes levelsFrom levels cellVisits visits askedFrom askedTo lookupVisits passVisits cellCount lentVerdict jobsVerdict planVerdict partnerIn pairCount singleCount partners printed layouts pairs singles passNumbers outcome _-_ _solo_ tableOf planned F bakehouse examples flatMap headD isDigit digitValue numberAfter lead lines frameOfKind frameOf isEnd outOfOrder contentVerdict frameVerdict extended unlessRefused readFrame readLines readTable digit hex line passLine totalsLine planBytes refusalBytes readingBytes runBytes spelled printings
+unfolding numbersFrom numbers elem indexOf lastD anyOf allOf select countWhere find total insertBy sortBy rightParent layoutsFrom treeVerdict ascend ancestors ancestorOrSelf depth children orSelf leavesWithin leaves firstLeaf lastLeaf solo upTo pathFrom path shares deepestShared topDepth bottomLeaf jobVerdict earlier runningOrder place leftward slotOrder slot without turn turns greedy compatible passes levelsFrom levels cellVisits visits askedFrom askedTo lookupVisits passVisits cellCount lentVerdict jobsVerdict planVerdict partnerIn pairCount singleCount partners printed layouts pairs singles passNumbers outcome _-_ _solo_ tableOf planned F bakehouse examples flatMap headD isDigit digitValue numberAfter lead lines frameOfKind frameOf isEnd outOfOrder contentVerdict frameVerdict extended unlessRefused readFrame readLines readTable digit hex line passLine totalsLine planBytes refusalBytes readingBytes runBytes spelled printings
 printings-hold = refl
 
 -- the running order of the bakehouse, and the cells that the lookups of jobs 4, 2 and 0 visit
 bakehouse-sweep : (runningOrder (tableOf bakehouse) ≡ 4 ∷ 1 ∷ 2 ∷ 0 ∷ 3 ∷ []) × (map (lookupVisits (tableOf bakehouse)) (4 ∷ 2 ∷ 0 ∷ []) ≡ 7 ∷ 11 ∷ 7 ∷ [])
-unfolding numbersFrom numbers elem indexOf lastD select count insertBy sortBy climb chain depth children orSelf leavesWithin leaves firstLeaf lastLeaf solo topDepth bottomLeaf earlier runningOrder place leftward slotOrder slot levelsFrom levels cellVisits visits askedFrom askedTo lookupVisits _-_ tableOf F bakehouse flatMap headD
+unfolding numbersFrom numbers elem indexOf lastD select countWhere insertBy sortBy ascend ancestors depth children orSelf leavesWithin leaves firstLeaf lastLeaf solo topDepth bottomLeaf earlier runningOrder place leftward slotOrder slot levelsFrom levels cellVisits visits askedFrom askedTo lookupVisits _-_ tableOf F bakehouse flatMap headD
 bakehouse-sweep = (refl, refl)

@@ -5,9 +5,9 @@ use mathlib.Core.Bool.{Bool, cond, not, _||_}
 use mathlib.Core.List.{List, [], _∷_, headD}
 use lib.ListN.{length, getD}
 use lib.Dec.{eqb, leb}
-use Rattle.model.specs.Lists.{elem, any, select}
+use Rattle.model.specs.Lists.{elem, anyOf, select}
 use Rattle.model.specs.Verdict.{Verdict, refuseIf, _then_}
-use Rattle.model.specs.Tree.{FFFF, chain, above, depth, firstLeaf}
+use Rattle.model.specs.Tree.{FFFF, ancestors, ancestorOrSelf, depth, firstLeaf}
 
 -- a table: the parents of its layouts, the tops, bottoms and solo marks of its jobs
 pub record Table : Type 0 where
@@ -46,7 +46,7 @@ upTo t (x ∷ xs) = x ∷ cond (eqb x t) [] (upTo t xs)
 
 -- every layout from the bottom b up to the top t
 unfoldable pub pathFrom : List ℕ → ℕ → ℕ → List ℕ
-pathFrom ps t b = upTo t (chain ps b)
+pathFrom ps t b = upTo t (ancestors ps b)
 
 module _ (tb : Table) where
   -- a job's path is every layout from bottom up to top
@@ -55,7 +55,7 @@ module _ (tb : Table) where
 
   -- two jobs share if some layout is on both paths
   unfoldable pub shares : ℕ → ℕ → Bool
-  shares i j = any (λ (x : ℕ). elem x (path j)) (path i)
+  shares i j = anyOf (λ (x : ℕ). elem x (path j)) (path i)
 
   -- the deepest layout on both paths, on which the pair prints
   unfoldable pub deepestShared : ℕ → ℕ → ℕ
@@ -72,4 +72,4 @@ module _ (tb : Table) where
 -- 5, a top or bottom that is no layout; 6, a bottom not at or below its top
 unfoldable pub jobVerdict : List ℕ → ℕ → ℕ → ℕ → Verdict
 jobVerdict ps t b place =
-    refuseIf (leb (length ps) t || leb (length ps) b) 5 place then refuseIf (not (above ps t b)) 6 place
+    refuseIf (leb (length ps) t || leb (length ps) b) 5 place then refuseIf (not (ancestorOrSelf ps t b)) 6 place

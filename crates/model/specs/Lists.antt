@@ -32,14 +32,14 @@ lastD (x ∷ xs) d = lastD xs x
 
 module _ {ℓ} {A : Type ℓ} where
   -- some member passes the test
-  unfoldable pub any : (A → Bool) → List A → Bool
-  any p [] = false
-  any p (x ∷ xs) = p x || any p xs
+  unfoldable pub anyOf : (A → Bool) → List A → Bool
+  anyOf p [] = false
+  anyOf p (x ∷ xs) = p x || anyOf p xs
 
   -- every member passes the test
-  unfoldable pub all : (A → Bool) → List A → Bool
-  all p [] = true
-  all p (x ∷ xs) = p x && all p xs
+  unfoldable pub allOf : (A → Bool) → List A → Bool
+  allOf p [] = true
+  allOf p (x ∷ xs) = p x && allOf p xs
 
   -- the members that pass the test, in order
   unfoldable pub select : (A → Bool) → List A → List A
@@ -47,9 +47,9 @@ module _ {ℓ} {A : Type ℓ} where
   select p (x ∷ xs) = cond (p x) (x ∷ select p xs) (select p xs)
 
   -- how many members pass the test
-  unfoldable pub count : (A → Bool) → List A → ℕ
-  count p [] = 0
-  count p (x ∷ xs) = cond (p x) (suc (count p xs)) (count p xs)
+  unfoldable pub countWhere : (A → Bool) → List A → ℕ
+  countWhere p [] = 0
+  countWhere p (x ∷ xs) = cond (p x) (suc (countWhere p xs)) (countWhere p xs)
 
   -- the first member that passes the test
   unfoldable pub find : (A → Bool) → List A → Option A
@@ -77,6 +77,6 @@ module _ {ℓ} {A : Type ℓ} where
   All P (x ∷ xs) = P x × All P xs
 
   -- the relation holds of every member and each later one
-  abbrev pub Pairwise : (A → A → Type 0) → List A → Type 0
-  Pairwise R [] = Unit {0}
-  Pairwise R (x ∷ xs) = All (R x) xs × Pairwise R xs
+  abbrev pub AllPairs : (A → A → Type 0) → List A → Type 0
+  AllPairs R [] = Unit {0}
+  AllPairs R (x ∷ xs) = All (R x) xs × AllPairs R xs

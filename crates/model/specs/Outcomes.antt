@@ -8,7 +8,7 @@ use Rattle.model.specs.Verdict.{Verdict, accepted, answer, lent}
 use Rattle.model.specs.Tree.{FFFF, depth, firstLeaf, lastLeaf, settleVerdict, settledCells}
 use Rattle.model.specs.Jobs.{Table, jobs, tableOf}
 use Rattle.model.specs.Visits.{cellCount}
-use Rattle.model.specs.Rival.{Foremost}
+use Rattle.model.specs.Rival.{MaximumAtEveryCut}
 use Rattle.model.specs.Planning as Planning
 use Rattle.model.specs.Table.{Reading, readTable, tableRead, buffersVerdict, readAnswer, readCells}
 use Rattle.model.specs.Output.{runLength, runOutput}
@@ -46,7 +46,7 @@ pub record PlannedAs (v : Verdict) (tb : Table) (partners layouts work : List �
   pub partners-hold : partners′ ≡ lent v partners (Planning.partners tb ++ drop (jobs tb) partners)
   pub layouts-hold : layouts′ ≡ lent v layouts (Planning.layouts tb ++ drop (jobs tb) layouts)
   pub work-holds : work′ ≡ lent v work (replicate Planning.workCells 0 ++ drop Planning.workCells work)
-  pub foremost : v ≡ accepted → Foremost tb partners′ (Planning.pairs tb) (Planning.singles tb)
+  pub foremost : v ≡ accepted → MaximumAtEveryCut tb partners′ (Planning.pairs tb) (Planning.singles tb)
 
 abbrev pub PlanOutcome : List ℕ → List ℕ → List ℕ → List ℕ → List ℕ → List ℕ → List ℕ → Planned → List ℕ → List ℕ → List ℕ → Type 0
 PlanOutcome parents tops bottoms marks partners layouts work =

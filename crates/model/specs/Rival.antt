@@ -7,7 +7,7 @@ use mathlib.Core.Bool.{Bool, not, _&&_, _||_}
 use mathlib.Core.List.{List, map}
 use lib.ListN.{length, getD}
 use lib.Dec.{T, eqb, ltb}
-use Rattle.model.specs.Lists.{numbers, All, Pairwise, any, count, select}
+use Rattle.model.specs.Lists.{numbers, All, AllPairs, anyOf, countWhere, select}
 use Rattle.model.specs.Tree.{FFFF}
 use Rattle.model.specs.Jobs.{Table, jobs, solo, shares}
 use Rattle.model.specs.Order.{place}
@@ -36,7 +36,7 @@ pub record Rules (tb : Table) (p : Pair) : Type 0 where
 -- a rival plan: pairs that keep the rules, no job in two of them
 pub record Rival (tb : Table) (ps : List Pair) : Type 0 where
   pub keep : All (Rules tb) ps
-  pub once : Pairwise Disjoint ps
+  pub once : AllPairs Disjoint ps
 
 -- both places are below m
 unfoldable pub inFront : Table → ℕ → Pair → Bool
@@ -44,7 +44,7 @@ inFront tb m p = ltb (place tb (p .one)) m && ltb (place tb (p .other)) m
 
 -- how many of the pairs lie in front of cut m
 unfoldable pub pairsInFront : Table → ℕ → List Pair → ℕ
-pairsInFront tb m ps = count (inFront tb m) ps
+pairsInFront tb m ps = countWhere (inFront tb m) ps
 
 -- the pairs of a partner buffer: I and J, both below m, are a pair if cell I holds J; each once, by its smaller number
 unfoldable pub pairsOf : ℕ → List ℕ → List Pair
@@ -54,17 +54,17 @@ pairsOf m partners =
 
 -- the job stands in one of the pairs
 unfoldable pub inPair : List Pair → ℕ → Bool
-inPair ps j = any (λ (p : Pair). eqb j (p .one) || eqb j (p .other)) ps
+inPair ps j = anyOf (λ (p : Pair). eqb j (p .one) || eqb j (p .other)) ps
 
 -- the singles of a plan are the jobs in no pair, and its passes are its pairs and its singles
 unfoldable pub singlesOf : Table → List Pair → ℕ
-singlesOf tb ps = count (λ (j : ℕ). not (inPair ps j)) (numbers (jobs tb))
+singlesOf tb ps = countWhere (λ (j : ℕ). not (inPair ps j)) (numbers (jobs tb))
 
 unfoldable pub passesOf : Table → List Pair → ℕ
 passesOf tb ps = length ps + singlesOf tb ps
 
 -- a plan that no rival beats at any cut: it stands in the partner buffer, and `pairs` and `singles` are given back with it
-pub record Foremost (tb : Table) (partners : List ℕ) (pairs singles : ℕ) : Type 0 where
+pub record MaximumAtEveryCut (tb : Table) (partners : List ℕ) (pairs singles : ℕ) : Type 0 where
   pub apart : (i : ℕ) → i < jobs tb → getD partners i FFFF ≢ i
   pub back : (i j : ℕ) → i < jobs tb → j < jobs tb → getD partners i FFFF ≡ j → getD partners j FFFF ≡ i
   pub keeps-rules : Rival tb (pairsOf (jobs tb) partners)

@@ -6,7 +6,7 @@ use mathlib.Core.Option.{Option, none, some}
 use mathlib.Core.List.{List, [], _∷_, _++_}
 use lib.ListN.{length, take, drop}
 use lib.Dec.{eqb, ltb, leb}
-use Rattle.model.specs.Lists.{all}
+use Rattle.model.specs.Lists.{allOf}
 use Rattle.model.specs.Verdict.{Verdict, accepted, refused, refuseIf, _then_, Answer, gives, refuses, lent, padded}
 use Rattle.model.specs.Tree.{FFFF, layoutLimit, rightParent}
 use Rattle.model.specs.Jobs.{Table, jobs, jobLimit, jobVerdict}
@@ -29,23 +29,23 @@ numberAfter n (d ∷ ds) = numberAfter (n * 16 + digitValue d) ds
 
 -- a line that ended in byte 0A, or one that the bytes stopped in
 pub data Line : Type 0 where
-  whole : List ℕ → Line
-  cut : List ℕ → Line
+  terminated : List ℕ → Line
+  unterminated : List ℕ → Line
 
 -- the lines with b in front of the first
 unfoldable pub lead : ℕ → List Line → List Line
-lead b [] = cut (b ∷ []) ∷ []
-lead b (whole l ∷ ls) = whole (b ∷ l) ∷ ls
-lead b (cut l ∷ ls) = cut (b ∷ l) ∷ ls
+lead b [] = unterminated (b ∷ []) ∷ []
+lead b (terminated l ∷ ls) = terminated (b ∷ l) ∷ ls
+lead b (unterminated l ∷ ls) = unterminated (b ∷ l) ∷ ls
 
 -- each line is ended by byte 0A
 unfoldable pub lines : List ℕ → List Line
 lines [] = []
-lines (b ∷ bs) = cond (eqb b 10) (whole [] ∷ lines bs) (lead b (lines bs))
+lines (b ∷ bs) = cond (eqb b 10) (terminated [] ∷ lines bs) (lead b (lines bs))
 
 -- the first of some lines; where there are none, a line without its 0A
 abbrev pub firstOf : List Line → Line
-firstOf [] = cut []
+firstOf [] = unterminated []
 firstOf (l ∷ ls) = l
 
 -- the line that the bytes begin with
@@ -79,8 +79,8 @@ frameOfKind l =
 
 -- the frame of a line; none for a line without its 0A, an unknown kind, a wrong length or a wrong digit
 unfoldable pub frameOf : Line → Option Frame
-frameOf (cut l) = none
-frameOf (whole l) = cond (all isDigit l) (frameOfKind l) none
+frameOf (unterminated l) = none
+frameOf (terminated l) = cond (allOf isDigit l) (frameOfKind l) none
 
 -- ---- reading, line by line. tb is the table so far, `ended` that the end was read
 

@@ -32,22 +32,22 @@ treeVerdict [] = refused 4 0
 treeVerdict (p ∷ ps) = layoutsFrom 0 (p ∷ ps)
 
 -- x and, in n steps up, the layouts above it
-unfoldable pub climb : ℕ → List ℕ → ℕ → List ℕ
-climb zero ps x = x ∷ []
-climb (suc n) ps zero = zero ∷ []
-climb (suc n) ps (suc x) = suc x ∷ climb n ps (getD ps (suc x) 0)
+unfoldable pub ascend : ℕ → List ℕ → ℕ → List ℕ
+ascend zero ps x = x ∷ []
+ascend (suc n) ps zero = zero ∷ []
+ascend (suc n) ps (suc x) = suc x ∷ ascend n ps (getD ps (suc x) 0)
 
 -- x and the layouts above it, deepest first. A parent has a smaller number, so x steps reach layout 0
-unfoldable pub chain : List ℕ → ℕ → List ℕ
-chain ps x = climb x ps x
+unfoldable pub ancestors : List ℕ → ℕ → List ℕ
+ancestors ps x = ascend x ps x
 
 -- u is x or lies above it
-unfoldable pub above : List ℕ → ℕ → ℕ → Bool
-above ps u x = elem u (chain ps x)
+unfoldable pub ancestorOrSelf : List ℕ → ℕ → ℕ → Bool
+ancestorOrSelf ps u x = elem u (ancestors ps x)
 
 -- depth of layout 0 is 0; a child is one deeper
 unfoldable pub depth : List ℕ → ℕ → ℕ
-depth ps x = pred (length (chain ps x))
+depth ps x = pred (length (ancestors ps x))
 
 -- the layouts whose parent is x, in order of number
 unfoldable pub children : List ℕ → ℕ → List ℕ

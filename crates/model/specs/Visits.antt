@@ -3,7 +3,7 @@
 use Prim.Native.Nat.{ℕ, zero, suc, _+_, _^_}
 use mathlib.Core.Bool.{Bool, cond, _||_, _&&_}
 use lib.Dec.{leb, ltb}
-use Rattle.model.specs.Lists.{numbers, count, total}
+use Rattle.model.specs.Lists.{numbers, countWhere, total}
 use Rattle.model.specs.Tree.{firstLeaf, lastLeaf}
 use Rattle.model.specs.Jobs.{Table, jobs, top, solo, bottomLeaf}
 use Rattle.model.specs.Greedy.{Pass, pair, single, passes}
@@ -18,14 +18,14 @@ unfoldable pub levels : ℕ → ℕ
 levels m = levelsFrom m 0 m
 
 -- the cell of 2 ^ k slots from `from` on lies wholly inside the slots from `lo` up to `hi`, or wholly outside them
-abbrev pub settledCell : ℕ → ℕ → ℕ → ℕ → Bool
-settledCell k from lo hi = leb lo from && leb (from + 2 ^ k) hi || (leb hi from || leb (from + 2 ^ k) lo)
+abbrev pub insideOrOutside : ℕ → ℕ → ℕ → ℕ → Bool
+insideOrOutside k from lo hi = leb lo from && leb (from + 2 ^ k) hi || (leb hi from || leb (from + 2 ^ k) lo)
 
 -- the visits at and under that cell: one wholly inside or wholly outside ends there, otherwise both halves are visited
 unfoldable pub cellVisits : ℕ → ℕ → ℕ → ℕ → ℕ
 cellVisits zero from lo hi = 1
 cellVisits (suc k) from lo hi =
-    cond (settledCell (suc k) from lo hi) 1 (1 + (cellVisits k from lo hi + cellVisits k (from + 2 ^ k) lo hi))
+    cond (insideOrOutside (suc k) from lo hi) 1 (1 + (cellVisits k from lo hi + cellVisits k (from + 2 ^ k) lo hi))
 
 -- the visits of a lookup, of 2 ^ k slots, for those from `lo` up to `hi`. An empty span ends at the topmost cell
 unfoldable pub visits : ℕ → ℕ → ℕ → ℕ
@@ -35,10 +35,10 @@ module _ (tb : Table) where
   -- the slots whose first leaf lies in the leaf span of the job's top: those from `askedFrom` up to `askedTo`, as many as lie left of
   -- the span's end, without those left of its start
   unfoldable pub askedFrom : ℕ → ℕ
-  askedFrom i = count (λ (j : ℕ). ltb (bottomLeaf tb j) (firstLeaf (tb .parents) (top tb i))) (numbers (jobs tb))
+  askedFrom i = countWhere (λ (j : ℕ). ltb (bottomLeaf tb j) (firstLeaf (tb .parents) (top tb i))) (numbers (jobs tb))
 
   unfoldable pub askedTo : ℕ → ℕ
-  askedTo i = count (λ (j : ℕ). leb (bottomLeaf tb j) (lastLeaf (tb .parents) (top tb i))) (numbers (jobs tb))
+  askedTo i = countWhere (λ (j : ℕ). leb (bottomLeaf tb j) (lastLeaf (tb .parents) (top tb i))) (numbers (jobs tb))
 
   -- the visits of the job's lookup; a solo job has none
   unfoldable pub lookupVisits : ℕ → ℕ

@@ -6,7 +6,7 @@ use mathlib.Core.Bool.{Bool}
 use mathlib.Core.List.{List}
 use lib.ListN.{length, getD}
 use lib.Dec.{leb}
-use Rattle.model.specs.Lists.{numbers, count, sortBy}
+use Rattle.model.specs.Lists.{numbers, countWhere, sortBy}
 use Rattle.model.specs.Tree.{depth}
 use Rattle.model.specs.Jobs.{Table, jobs, bottom, bottomLeaf}
 use Rattle.model.specs.Order.{lexicographic, runningOrder, slot}
@@ -45,4 +45,4 @@ module _ (tb : Table) where
     pub order-at : (p : ℕ) → p < jobs tb → getD work (orderCells + p) 0 ≡ jobAt p
     pub slot-at : (p : ℕ) → p < jobs tb → getD work (slotCells + p) 0 ≡ slot tb (jobAt p)
     pub reach-at : (r : ℕ) → r < jobs tb → getD work (reachCells + r) 0 ≡ getD reachOrder r 0
-    pub ends-at : (l : ℕ) → l < length (tb .parents) → getD ends l 0 ≡ count (λ (j : ℕ). leb (bottomLeaf tb j) l) (numbers (jobs tb))
+    pub ends-at : (l : ℕ) → l < length (tb .parents) → getD ends l 0 ≡ countWhere (λ (j : ℕ). leb (bottomLeaf tb j) l) (numbers (jobs tb))

@@ -11,7 +11,7 @@ use lib.Dec.{leb}
 use borrow.Author.Tests.{le-leb, lt-leb, eq-eqb, ne-eqb}
 use Rattle.model.specs.Lists.{numbersFrom, numbers}
 use Rattle.model.specs.Verdict.{Verdict, accepted, _then_}
-use Rattle.model.specs.Tree.{above}
+use Rattle.model.specs.Tree.{ancestorOrSelf}
 use Rattle.model.specs.Jobs.{Table, jobs, top, bottom, jobVerdict}
 use Rattle.model.specs.Planning.{jobsVerdict}
 use Rattle.model.specs.declared.Refusal.{Refusal}
@@ -23,7 +23,7 @@ use Rattle.planner.specs.Checks.{JobChecked, JobsChecked, numberVerdict}
 
 -- r is the answer of the ancestor test
 abbrev Tested : ℕ → ℕ → List ℕ → List ℕ → List ℕ → Bool → Type 0
-Tested u x depths firsts lasts r = (ps : List ℕ) → Spanned ps depths firsts lasts → u < length ps → x < length ps → r ≡ above ps u x
+Tested u x depths firsts lasts r = (ps : List ℕ) → Spanned ps depths firsts lasts → u < length ps → x < length ps → r ≡ ancestorOrSelf ps u x
 
 module _ (layouts top bottom : ℕ) (depths firsts lasts : List ℕ) where
   -- 5: no layout

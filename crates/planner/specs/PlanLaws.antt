@@ -15,7 +15,7 @@ use Rattle.model.specs.declared.Planned.{Planned}
 use Rattle.model.specs.declared.Planned.the-variants as planned
 use Rattle.model.specs.declared.Refusal.{Refusal}
 use Rattle.model.specs.declared.Totals.{Totals}
-use Rattle.matching.specs.Foremost.{foremost}
+use Rattle.matching.specs.MaximumAtEveryCut.{foremost}
 use Rattle.settle.specs.Spanned.{Spanned}
 use Rattle.orders.specs.Accepted.{Accepted, Lent, accepted-job}
 use Rattle.planner.specs.Checks.{checkVerdict}

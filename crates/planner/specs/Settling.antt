@@ -10,7 +10,7 @@ use Rattle.model.specs.Tree.{layoutLimit, treeVerdict, settleVerdict}
 use Rattle.model.specs.Answers.{settledAnswer}
 use Rattle.model.specs.Outcomes.{SettleOutcome}
 use Rattle.model.specs.declared.Settled.{Settled}
-use Rattle.tree.specs.WellFormed.{Tree, well-formed}
+use Rattle.tree_laws.specs.WellFormed.{Tree, well-formed}
 use Rattle.settle.specs.Spanned.{Spanned, spanned}
 
 -- the verdict behind an answer

@@ -48,7 +48,7 @@ fn fill_in(
         layouts,
         work,
     );
-    cells::fill(work, 0);
+    buffers::fill(work, 0);
     totals
 }
 

@@ -18,7 +18,7 @@ use Rattle.model.specs.Order.{runningOrder}
 use Rattle.model.specs.Greedy.{Pass, pair, single, greedy, without, compatible, passes}
 use Rattle.model.specs.Planning.{partnerIn, printed, pairs, singles, pairCount, singleCount}
 use Rattle.model.specs.Output.{digit, hex, passLine}
-use Rattle.tree.specs.Lists.{Distinct, all-mem, mem-all, select-all, getD-mem}
+use Rattle.tree_laws.specs.Lists.{Distinct, all-mem, mem-all, select-all, getD-mem}
 use Rattle.matching.specs.Lists.{found-or-none}
 use Rattle.matching.specs.Passes.{pairsIn, vertices, vertices-length, greedy-with, greedy-alone, greedy-done}
 use Rattle.matching.specs.Partners.{pair-partners, partner-none, passes-distinct, passes-known, jobs-counted}

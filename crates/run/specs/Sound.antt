@@ -14,11 +14,11 @@ use lib.Seq.{getD-at}
 use lib.Dec.{eqb, leb, ltb}
 use borrow.Author.Tests.{leb-false, ltb-false, eqb-false, not-false}
 use Rattle.model.specs.Verdict.{Verdict, accepted, refused, refuseIf, _then_}
-use Rattle.model.specs.Tree.{layoutLimit, rightParent, above, layoutsFrom, treeVerdict}
+use Rattle.model.specs.Tree.{layoutLimit, rightParent, ancestorOrSelf, layoutsFrom, treeVerdict}
 use Rattle.model.specs.Jobs.{Table, jobs, jobLimit, top, bottom, jobVerdict}
 use Rattle.model.specs.Planning.{workCells, jobsVerdict, planVerdict}
 use Rattle.model.specs.Table.{Line, Frame, layoutFrame, jobFrame, soloFrame, endFrame, frameOf, lines, isEnd, outOfOrder, contentVerdict, frameVerdict, withJob, extended, Reading, read, unlessRefused, readFrame, readLines, emptyTable, readTable}
-use Rattle.tree.specs.Numbers.{numbers-mem}
+use Rattle.tree_laws.specs.Numbers.{numbers-mem}
 use Rattle.orders.specs.PlanVerdict.{right-tree}
 
 -- what holds of the table so far
@@ -52,7 +52,7 @@ elsewhere false false line j e = refl
 
 job-elsewhere : (ps : List ℕ) (t b line j : ℕ) → jobVerdict ps t b line ≡ accepted → jobVerdict ps t b j ≡ accepted
 unfolding jobVerdict
-job-elsewhere ps t b line j e = elsewhere (leb (length ps) t || leb (length ps) b) (not (above ps t b)) line j e
+job-elsewhere ps t b line j e = elsewhere (leb (length ps) t || leb (length ps) b) (not (ancestorOrSelf ps t b)) line j e
 
 -- ---- one line more
 

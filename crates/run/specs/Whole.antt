@@ -21,7 +21,7 @@ use Rattle.model.specs.declared.Refusal.{Refusal}
 use Rattle.model.specs.declared.Counts.{Counts}
 use Rattle.model.specs.declared.TableRead.{TableRead}
 use Rattle.model.specs.declared.TableRead.the-variants as table-read
-use Rattle.tree.specs.Numbers.{numbers-length, numbers-at}
+use Rattle.tree_laws.specs.Numbers.{numbers-length, numbers-at}
 use Rattle.table.specs.Steps.{Unused, BuffersReady, TableHeld, LinesOutcome}
 use Rattle.orders.specs.Accepted.{Accepted, plan-accepted}
 use Rattle.sweeping.specs.Steps.{WorkedOut}

@@ -10,9 +10,9 @@ use lib.ListN.{length, getD, set, length-set}
 use lib.Seq.{getD-set-same, getD-set-other}
 use lib.Dec.{eqb, ltb}
 use borrow.Author.Tests.{lt-ltb, le-ltb}
-use Rattle.model.specs.Tree.{climb, chain, depth}
-use Rattle.tree.specs.WellFormed.{Tree}
-use Rattle.tree.specs.Chain.{depth-root, depth-child}
+use Rattle.model.specs.Tree.{ascend, ancestors, depth}
+use Rattle.tree_laws.specs.WellFormed.{Tree}
+use Rattle.tree_laws.specs.Chain.{depth-root, depth-child}
 use Rattle.settle.specs.Numbering.{Stamped}
 use Rattle.settle.proofs.Stamps.{stamped-set, stamped-as, one-more}
 
@@ -24,17 +24,17 @@ pub record DepthsBelow (ps : List ℕ) (x : ℕ) (old new : List ℕ) : Type 0 w
   pub same : length new ≡ length old
   pub written : Stamped (λ (y : ℕ). ltb y x) (depth ps) old new
 
-climb-length : (n : ℕ) (ps : List ℕ) (x : ℕ) → length (climb n ps x) ≤ suc n
-unfolding climb
+climb-length : (n : ℕ) (ps : List ℕ) (x : ℕ) → length (ascend n ps x) ≤ suc n
+unfolding ascend
 climb-length zero ps x = omega arith
 climb-length (suc n) ps zero = omega arith
 climb-length (suc n) ps (suc x) = omega (arith, climb-length n ps (getD ps (suc x) 0))
 
 -- a layout is no deeper than its number
 pub depth-le : (ps : List ℕ) (x : ℕ) → depth ps x ≤ x
-unfolding depth chain
+unfolding depth ancestors
 depth-le ps x =
-    let h : pred (length (climb x ps x)) ≤ x = omega (arith, climb-length x ps x) in
+    let h : pred (length (ascend x ps x)) ≤ x = omega (arith, climb-length x ps x) in
     h
 
 pub depths-root : (ps old : List ℕ) → Tree ps → length ps ≤ length old → DepthsBelow ps 1 (set old 0 0) (set old 0 0)

@@ -12,7 +12,7 @@ use lib.Dec.{eqb}
 use borrow.Author.Tests.{eq-eqb, ne-eqb}
 use Rattle.model.specs.Lists.{numbersFrom, select}
 use Rattle.model.specs.Tree.{FFFF}
-use Rattle.tree.specs.WellFormed.{Tree}
+use Rattle.tree_laws.specs.WellFormed.{Tree}
 use Rattle.settle.specs.Numbering.{childrenFrom, Unlinked, Linked}
 
 -- inside the list it does not matter what stands past its end

@@ -13,9 +13,9 @@ use Rattle.model.specs.Tree.{FFFF, layoutLimit, layoutsFrom, treeVerdict, settl
 use Rattle.model.specs.Answers.{settledAnswer}
 use Rattle.model.specs.Outcomes.{SettledAs}
 use Rattle.model.specs.declared.Settled.{Settled}
-use Rattle.tree.specs.WellFormed.{Tree}
-use Rattle.tree.specs.Chain.{true-above, above-root}
-use Rattle.tree.specs.Leaves.{first-root}
+use Rattle.tree_laws.specs.WellFormed.{Tree}
+use Rattle.tree_laws.specs.Chain.{true-ancestor, ancestor-root}
+use Rattle.tree_laws.specs.Leaves.{first-root}
 use Rattle.settle.specs.Numbering.{FirstWrong, Unlinked, Linked, Stamped, atOrBelow, Numberable, Numbered}
 use Rattle.settle.proofs.Stamps.{stamped-as, stamped-copied, stamped-all}
 
@@ -88,7 +88,7 @@ module _ (ps depths firsts lasts : List ℕ) (r : Settled) where
 -- what is numbered at and below layout 0, and copied, is written at every layout
 module _ (ps firsts lasts : List ℕ) (r : ℕ) (firsts′ lasts′ : List ℕ) (t : Tree ps) (n : Numbered ps (atOrBelow ps 0) 0 firsts lasts r firsts′ lasts′) (old new : List ℕ) where
   every : (y : ℕ) → atOrBelow ps 0 y ≡ ltb y (length ps)
-  every y = rw (true-above ps t (above-root ps t y)) (and-true (ltb y (length ps)))
+  every y = rw (true-ancestor ps t (ancestor-root ps t y)) (and-true (ltb y (length ps)))
 
   copied : (f : ℕ → ℕ) (a b : List ℕ) → Stamped (atOrBelow ps 0) f a b → Stamped (λ (y : ℕ). ltb y (length ps)) (λ (y : ℕ). getD b y 0) old new → Stamped (λ (y : ℕ). ltb y (length ps)) f old new
   copied f a b s = stamped-copied (λ (y : ℕ). ltb y (length ps)) f a b old new (stamped-as (atOrBelow ps 0) (λ (y : ℕ). ltb y (length ps)) f a b every s)

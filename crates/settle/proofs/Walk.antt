@@ -11,13 +11,13 @@ use native.Mathlib.Decide.{ℕ-discrete, decLt}
 use lib.ListN.{length, getD, set, length-set, length-append}
 use lib.Dec.{eqb, ltb}
 use borrow.Author.Tests.{lt-ltb, le-ltb, eq-eqb, ne-eqb, eqb-false}
-use Rattle.model.specs.Lists.{numbers, numbersFrom, any, select}
-use Rattle.model.specs.Tree.{FFFF, above, children, leaves, firstLeaf, lastLeaf}
-use Rattle.tree.specs.WellFormed.{Tree}
-use Rattle.tree.specs.Lists.{answers}
-use Rattle.tree.specs.Chain.{Above, above-true, true-above, above-le, above-refl}
-use Rattle.tree.specs.Children.{child-parent, child-greater, rest-greater, above-child, child-above}
-use Rattle.tree.specs.Leaves.{leaves-nonempty, leaves-of-leaf, leaves-of-children, first-of-child, last-is, last-lt}
+use Rattle.model.specs.Lists.{numbers, numbersFrom, anyOf, select}
+use Rattle.model.specs.Tree.{FFFF, ancestorOrSelf, children, leaves, firstLeaf, lastLeaf}
+use Rattle.tree_laws.specs.WellFormed.{Tree}
+use Rattle.tree_laws.specs.Lists.{answers}
+use Rattle.tree_laws.specs.Chain.{AncestorOrSelf, ancestor-true, true-ancestor, ancestor-le, ancestor-refl}
+use Rattle.tree_laws.specs.Children.{child-parent, child-greater, rest-greater, ancestor-child, child-ancestor}
+use Rattle.tree_laws.specs.Leaves.{leaves-nonempty, leaves-of-leaf, leaves-of-children, first-of-child, last-is, last-lt}
 use Rattle.settle.specs.Numbering.{isChild, childrenFrom, Linked, Stamped, atOrBelow, strictlyBelow, Numberable, Numbered}
 use Rattle.settle.proofs.Stamps.{stamped-as, stamped-set, stamped-then}
 
@@ -56,15 +56,15 @@ module _ (ps : List ℕ) where
 
 -- y is a layout under one of cs
 abbrev pub under : List ℕ → List ℕ → ℕ → Bool
-under ps cs y = ltb y (length ps) && any (λ (c : ℕ). above ps c y) cs
+under ps cs y = ltb y (length ps) && anyOf (λ (c : ℕ). ancestorOrSelf ps c y) cs
 
-any-append : (p : ℕ → Bool) (xs ys : List ℕ) → any p (xs ++ ys) ≡ (any p xs || any p ys)
-unfolding any
+any-append : (p : ℕ → Bool) (xs ys : List ℕ) → anyOf p (xs ++ ys) ≡ (anyOf p xs || anyOf p ys)
+unfolding anyOf
 any-append p [] ys = refl
-any-append p (x ∷ xs) ys = ap (λ (b : Bool). p x || b) (any-append p xs ys) ∙ sym (or-assoc (p x) (any p xs) (any p ys))
+any-append p (x ∷ xs) ys = ap (λ (b : Bool). p x || b) (any-append p xs ys) ∙ sym (or-assoc (p x) (anyOf p xs) (anyOf p ys))
 
-any-mem : (p : ℕ → Bool) (xs : List ℕ) → any p xs ≡ true → (x : ℕ) × (List·Memᴰ x xs × (p x ≡ true))
-unfolding any
+any-mem : (p : ℕ → Bool) (xs : List ℕ) → anyOf p xs ≡ true → (x : ℕ) × (List·Memᴰ x xs × (p x ≡ true))
+unfolding anyOf
 any-mem p [] e = let z : _≡_ {A = ℕ} 0 1 = cc in absurd (omega arith)
 any-mem p (x ∷ xs) e = ⊎-elim
     (λ (h : p x ≡ true). (x, (List·Memᴰ·head refl, h)))
@@ -73,41 +73,41 @@ any-mem p (x ∷ xs) e = ⊎-elim
     (m .0, (List·Memᴰ·tail (m .1 .0), m .1 .1)))
     (answers (p x))
 
-mem-any : (p : ℕ → Bool) {x : ℕ} {xs : List ℕ} → List·Memᴰ x xs → p x ≡ true → any p xs ≡ true
-unfolding any
+mem-any : (p : ℕ → Bool) {x : ℕ} {xs : List ℕ} → List·Memᴰ x xs → p x ≡ true → anyOf p xs ≡ true
+unfolding anyOf
 mem-any p (List·Memᴰ·head {xs = ys} same) e = rw (← same, e)
 mem-any p (List·Memᴰ·tail {x = y} {xs = ys} m) e = rw (mem-any p m e) (or-true (p y))
 
 -- under one child more
 pub under-more : (ps done : List ℕ) (c y : ℕ) → (under ps done y || atOrBelow ps c y) ≡ under ps (done ++ c ∷ []) y
-unfolding any
+unfolding anyOf
 under-more ps done c y =
-    rw (any-append (λ (d : ℕ). above ps d y) done (c ∷ []), or-false (above ps c y))
-    (sym (and-or-distrib-left (ltb y (length ps)) (any (λ (d : ℕ). above ps d y) done) (above ps c y)))
+    rw (any-append (λ (d : ℕ). ancestorOrSelf ps d y) done (c ∷ []), or-false (ancestorOrSelf ps c y))
+    (sym (and-or-distrib-left (ltb y (length ps)) (anyOf (λ (d : ℕ). ancestorOrSelf ps d y) done) (ancestorOrSelf ps c y)))
 
 true-false : {b : Bool} → b ≡ true → b ≡ false → ⊥
 true-false {b} p q = let z : _≡_ {A = ℕ} 0 1 = cc in omega arith
 
 module _ (ps : List ℕ) (t : Tree ps) (x : ℕ) (known : x < length ps) where
   -- under all of the children is strictly below
-  under-inside : (y : ℕ) → y < length ps → any (λ (c : ℕ). above ps c y) (children ps x) ≡ (above ps x y && not (eqb y x))
+  under-inside : (y : ℕ) → y < length ps → anyOf (λ (c : ℕ). ancestorOrSelf ps c y) (children ps x) ≡ (ancestorOrSelf ps x y && not (eqb y x))
   under-inside y inside = ⊎-elim
-      (λ (h : any (λ (c : ℕ). above ps c y) (children ps x) ≡ true).
-      let m : (c : ℕ) × (List·Memᴰ c (children ps x) × (above ps c y ≡ true)) = any-mem (λ (c : ℕ). above ps c y) (children ps x) h in
-      let a : Above ps (m .0) y = above-true ps t (m .0) y (m .1 .1) in
-      let other : y ≡ x → ⊥ = λ e. omega (arith, child-greater ps t known (m .1 .0), above-le ps t a) in
-      rw (h, true-above ps t (child-above ps t known (m .1 .0) a), ne-eqb y x other))
-      (λ (h : any (λ (c : ℕ). above ps c y) (children ps x) ≡ false).
-      rw h (sym (none-below h (above ps x y) refl (eqb y x) refl)))
-      (answers (any (λ (c : ℕ). above ps c y) (children ps x)))
+      (λ (h : anyOf (λ (c : ℕ). ancestorOrSelf ps c y) (children ps x) ≡ true).
+      let m : (c : ℕ) × (List·Memᴰ c (children ps x) × (ancestorOrSelf ps c y ≡ true)) = any-mem (λ (c : ℕ). ancestorOrSelf ps c y) (children ps x) h in
+      let a : AncestorOrSelf ps (m .0) y = ancestor-true ps t (m .0) y (m .1 .1) in
+      let other : y ≡ x → ⊥ = λ e. omega (arith, child-greater ps t known (m .1 .0), ancestor-le ps t a) in
+      rw (h, true-ancestor ps t (child-ancestor ps t known (m .1 .0) a), ne-eqb y x other))
+      (λ (h : anyOf (λ (c : ℕ). ancestorOrSelf ps c y) (children ps x) ≡ false).
+      rw h (sym (none-below h (ancestorOrSelf ps x y) refl (eqb y x) refl)))
+      (answers (anyOf (λ (c : ℕ). ancestorOrSelf ps c y) (children ps x)))
     where
-      none-below : any (λ (c : ℕ). above ps c y) (children ps x) ≡ false → (a : Bool) → above ps x y ≡ a → (b : Bool) → eqb y x ≡ b → (a && not b) ≡ false
+      none-below : anyOf (λ (c : ℕ). ancestorOrSelf ps c y) (children ps x) ≡ false → (a : Bool) → ancestorOrSelf ps x y ≡ a → (b : Bool) → eqb y x ≡ b → (a && not b) ≡ false
       none-below h false p b q = refl
       none-below h true p true q = refl
       none-below h true p false q = absurd (⊎-elim
           (λ (same : x ≡ y). eqb-false y x q (sym same))
-          (λ (m : (c : ℕ) × (List·Memᴰ c (children ps x) × Above ps c y)). true-false (mem-any (λ (c : ℕ). above ps c y) (m .1 .0) (true-above ps t (m .1 .1))) h)
-          (above-child ps t inside (above-true ps t x y p)))
+          (λ (m : (c : ℕ) × (List·Memᴰ c (children ps x) × AncestorOrSelf ps c y)). true-false (mem-any (λ (c : ℕ). ancestorOrSelf ps c y) (m .1 .0) (true-ancestor ps t (m .1 .1))) h)
+          (ancestor-child ps t inside (ancestor-true ps t x y p)))
 
   pub under-all : (y : ℕ) → under ps (children ps x) y ≡ strictlyBelow ps x y
   under-all y = elim (decLt y (length ps)) [
@@ -118,7 +118,7 @@ module _ (ps : List ℕ) (t : Tree ps) (x : ℕ) (known : x < length ps) where
   -- x itself and what is strictly below it
   pub below-or-self : (y : ℕ) → (eqb y x || strictlyBelow ps x y) ≡ atOrBelow ps x y
   below-or-self y = elim (ℕ-discrete y x) [
-    | yes same ↦ rw (same, eq-eqb x x refl, lt-ltb x (length ps) known, true-above ps t (above-refl ps t x))
+    | yes same ↦ rw (same, eq-eqb x x refl, lt-ltb x (length ps) known, true-ancestor ps t (ancestor-refl ps t x))
     | no other ↦ rw (ne-eqb y x other) (and-true (atOrBelow ps x y))
   ]
 
@@ -158,7 +158,7 @@ flatMap-snoc f [] c = append-nil (f c)
 flatMap-snoc f (x ∷ xs) c = ap (λ (l : List ℕ). f x ++ l) (flatMap-snoc f xs c) ∙ sym (append-assoc (f x) (flatMap f xs) (f c))
 
 nothing-under : (ps : List ℕ) (f : ℕ → ℕ) (old : List ℕ) → Stamped (under ps []) f old old
-unfolding any
+unfolding anyOf
 nothing-under ps f old y = rw (and-false (ltb y (length ps)))
 
 module _ (ps : List ℕ) (t : Tree ps) (x : ℕ) (known : x < length ps) where

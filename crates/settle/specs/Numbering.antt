@@ -8,8 +8,8 @@ use lib.ListN.{length, getD}
 use lib.Dec.{eqb, ltb}
 use Rattle.model.specs.Lists.{numbersFrom, select}
 use Rattle.model.specs.Verdict.{refuseIf}
-use Rattle.model.specs.Tree.{FFFF, layoutsFrom, above, leaves, firstLeaf, lastLeaf}
-use Rattle.tree.specs.WellFormed.{Tree}
+use Rattle.model.specs.Tree.{FFFF, layoutsFrom, ancestorOrSelf, leaves, firstLeaf, lastLeaf}
+use Rattle.tree_laws.specs.WellFormed.{Tree}
 
 -- r is the first layout with a wrong parent, or how many layouts there are
 pub record FirstWrong (ps : List ℕ) (r : ℕ) : Type 0 where
@@ -35,7 +35,7 @@ Stamped p f old new = (y : ℕ) → getD new y 0 ≡ cond (p y) (f y) (getD old 
 
 -- y is x or a layout below it
 abbrev pub atOrBelow : List ℕ → ℕ → ℕ → Bool
-atOrBelow ps x y = ltb y (length ps) && above ps x y
+atOrBelow ps x y = ltb y (length ps) && ancestorOrSelf ps x y
 
 -- y is a layout below x
 abbrev pub strictlyBelow : List ℕ → ℕ → ℕ → Bool

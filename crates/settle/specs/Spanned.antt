@@ -10,12 +10,12 @@ use lib.Dec.{leb}
 use borrow.Author.Tests.{le-leb, lt-leb}
 use Rattle.model.specs.Lists.{numbers}
 use Rattle.model.specs.Verdict.{accepted}
-use Rattle.model.specs.Tree.{depth, firstLeaf, lastLeaf, above}
+use Rattle.model.specs.Tree.{depth, firstLeaf, lastLeaf, ancestorOrSelf}
 use Rattle.model.specs.Outcomes.{SettledAs}
 use Rattle.model.specs.declared.Settled.{Settled}
-use Rattle.tree.specs.WellFormed.{Tree}
-use Rattle.tree.specs.Numbers.{numbers-length, numbers-at}
-use Rattle.tree.specs.Spans.{ancestor-test}
+use Rattle.tree_laws.specs.WellFormed.{Tree}
+use Rattle.tree_laws.specs.Numbers.{numbers-length, numbers-at}
+use Rattle.tree_laws.specs.Spans.{ancestor-test}
 
 pub record Spanned (ps depths firsts lasts : List ℕ) : Type 0 where
   pub tree : Tree ps
@@ -27,21 +27,21 @@ pub record Spanned (ps depths firsts lasts : List ℕ) : Type 0 where
   pub last-at : (x : ℕ) → x < length ps → getD lasts x 0 ≡ lastLeaf ps x
 
 -- the ancestor test on the three lists
-pub spanned-above : (ps depths firsts lasts : List ℕ) → Spanned ps depths firsts lasts → (u x : ℕ) → u < length ps → x < length ps → above ps u x ≡ (leb (getD firsts u 0) (getD firsts x 0) && leb (getD firsts x 0) (getD lasts u 0) && leb (getD depths u 0) (getD depths x 0))
-spanned-above ps depths firsts lasts s u x hu hx =
+pub spanned-ancestor : (ps depths firsts lasts : List ℕ) → Spanned ps depths firsts lasts → (u x : ℕ) → u < length ps → x < length ps → ancestorOrSelf ps u x ≡ (leb (getD firsts u 0) (getD firsts x 0) && leb (getD firsts x 0) (getD lasts u 0) && leb (getD depths u 0) (getD depths x 0))
+spanned-ancestor ps depths firsts lasts s u x hu hx =
     ancestor-test ps (s .tree) u x hu hx
     ∙ rw (s .first-at u hu, s .first-at x hx, s .last-at u hu, s .depth-at u hu, s .depth-at x hx) refl
 
 module _ (ps depths firsts lasts : List ℕ) (s : Spanned ps depths firsts lasts) (u x : ℕ) (hu : u < length ps) (hx : x < length ps) where
   -- left of the span, right of it, or by depth where it lies inside
-  pub above-left : getD firsts x 0 < getD firsts u 0 → false ≡ above ps u x
-  above-left h = sym (spanned-above ps depths firsts lasts s u x hu hx ∙ rw (lt-leb (getD firsts u 0) (getD firsts x 0) h) refl)
+  pub ancestor-left : getD firsts x 0 < getD firsts u 0 → false ≡ ancestorOrSelf ps u x
+  ancestor-left h = sym (spanned-ancestor ps depths firsts lasts s u x hu hx ∙ rw (lt-leb (getD firsts u 0) (getD firsts x 0) h) refl)
 
-  pub above-right : getD firsts u 0 ≤ getD firsts x 0 → getD lasts u 0 < getD firsts x 0 → false ≡ above ps u x
-  above-right h k = sym (spanned-above ps depths firsts lasts s u x hu hx ∙ rw (le-leb (getD firsts u 0) (getD firsts x 0) h, lt-leb (getD firsts x 0) (getD lasts u 0) k) refl)
+  pub ancestor-right : getD firsts u 0 ≤ getD firsts x 0 → getD lasts u 0 < getD firsts x 0 → false ≡ ancestorOrSelf ps u x
+  ancestor-right h k = sym (spanned-ancestor ps depths firsts lasts s u x hu hx ∙ rw (le-leb (getD firsts u 0) (getD firsts x 0) h, lt-leb (getD firsts x 0) (getD lasts u 0) k) refl)
 
-  pub above-inside : getD firsts u 0 ≤ getD firsts x 0 → getD firsts x 0 ≤ getD lasts u 0 → leb (getD depths u 0) (getD depths x 0) ≡ above ps u x
-  above-inside h k = sym (spanned-above ps depths firsts lasts s u x hu hx ∙ rw (le-leb (getD firsts u 0) (getD firsts x 0) h, le-leb (getD firsts x 0) (getD lasts u 0) k) refl)
+  pub ancestor-inside : getD firsts u 0 ≤ getD firsts x 0 → getD firsts x 0 ≤ getD lasts u 0 → leb (getD depths u 0) (getD depths x 0) ≡ ancestorOrSelf ps u x
+  ancestor-inside h k = sym (spanned-ancestor ps depths firsts lasts s u x hu hx ∙ rw (le-leb (getD firsts u 0) (getD firsts x 0) h, le-leb (getD firsts x 0) (getD lasts u 0) k) refl)
 
 -- what an accepted call of *Settle layouts* leaves
 module _ (ps depths firsts lasts : List ℕ) (r : Settled) (depths′ firsts′ lasts′ : List ℕ) where

@@ -8,10 +8,10 @@ ghost use Prim.Native.Nat.{ℕ, _+_, _<_, _≤_};
 ghost use lib.ListN.{length, getD};
 ghost use lib.Dec.{ltb};
 ghost use Rattle.model.specs.Verdict.{refuses};
-ghost use Rattle.model.specs.Tree.{layoutLimit, rightParent, depth, above, firstLeaf, lastLeaf};
+ghost use Rattle.model.specs.Tree.{layoutLimit, rightParent, depth, ancestorOrSelf, firstLeaf, lastLeaf};
 ghost use Rattle.model.specs.Answers.{settledAnswer};
 ghost use Rattle.model.specs.Outcomes.{SettleOutcome};
-ghost use Rattle.tree.specs.WellFormed.{Tree};
+ghost use Rattle.tree_laws.specs.WellFormed.{Tree};
 ghost use Rattle.settle.specs.Spanned.{Spanned};
 ghost use Rattle.settle.specs.Numbering.{FirstWrong, Unlinked, Linked, Stamped, SomeNumberable, EachNumbered, atOrBelow, strictlyBelow};
 
@@ -209,7 +209,7 @@ pub fn at_or_below(
     firsts: &[u16],
     lasts: &[u16],
 ) -> bool
-    ensures { λ r. ⌜ ((ps : List ℕ) → Spanned ps (now (depths .entry)) (now (firsts .entry)) (now (lasts .entry)) → u .0 < length ps → x .0 < length ps → r ≡ above ps (u .0) (x .0)) ⌝ }
+    ensures { λ r. ⌜ ((ps : List ℕ) → Spanned ps (now (depths .entry)) (now (firsts .entry)) (now (lasts .entry)) → u .0 < length ps → x .0 < length ps → r ≡ ancestorOrSelf ps (u .0) (x .0)) ⌝ }
 {
     let leaf = cell(firsts, x);
     if leaf < cell(firsts, u) {

@@ -12,10 +12,10 @@ use lib.Seq.{getD-append-seam}
 use Rattle.model.specs.Lists.{elem}
 use Rattle.model.specs.Jobs.{Table, path, pathFrom, top, bottom}
 use Rattle.model.specs.Stretch.{stretchOf, numbersOf}
-use Rattle.tree.specs.WellFormed.{Tree}
-use Rattle.tree.specs.Lists.{elem-mem, mem-elem, getD-mem, same-test}
-use Rattle.tree.specs.Chain.{Above, self, up}
-use Rattle.tree.specs.Sharing.{Downward, path-one, path-up}
+use Rattle.tree_laws.specs.WellFormed.{Tree}
+use Rattle.tree_laws.specs.Lists.{elem-mem, mem-elem, getD-mem, same-test}
+use Rattle.tree_laws.specs.Chain.{AncestorOrSelf, self, up}
+use Rattle.tree_laws.specs.Sharing.{Downward, path-one, path-up}
 use Rattle.stretch.specs.StretchPaths.{Stands, Descending, shared-in-stretch, stretch-in-both}
 
 -- a path from top to bottom that ends at b
@@ -72,7 +72,7 @@ module _ (ps : List ℕ) (t : Tree ps) where
       ]
 
   -- a path, turned round, descends to its bottom
-  descent : {u b : ℕ} → Above ps u b → Descent ps b (reverse (pathFrom ps u b))
+  descent : {u b : ℕ} → AncestorOrSelf ps u b → Descent ps b (reverse (pathFrom ps u b))
   descent (self {x = b}) = rw (path-one ps t b) (one b)
   descent (up {u = u} {x = b} h a) =
       rw (path-up ps t u b h a, reverse-cons b (pathFrom ps u (getD ps b 0)))

@@ -43,15 +43,15 @@ rises above xs path (suc d) k m e h =
     omega arith
 
 -- two paths that meet are the same above
-meet-above : (above : ℕ → ℕ) (xs ys : List ℕ) → Descending above xs → Descending above ys
+meet-ancestor : (above : ℕ → ℕ) (xs ys : List ℕ) → Descending above xs → Descending above ys
     → (d i j m n : ℕ) → m ≡ i + d → n ≡ j + d → m < length xs → n < length ys → getD xs m 0 ≡ getD ys n 0 → getD xs i 0 ≡ getD ys j 0
-meet-above above xs ys p q zero i j m n em en hm hn e =
+meet-ancestor above xs ys p q zero i j m n em en hm hn e =
     let mi : m ≡ i = omega arith in
     let nj : n ≡ j = omega arith in
     subst (λ (k : ℕ). getD xs k 0 ≡ getD ys j 0) mi (subst (λ (k : ℕ). getD xs m 0 ≡ getD ys k 0) nj e)
-meet-above above xs ys p q (suc d) i j m n em en hm hn e =
+meet-ancestor above xs ys p q (suc d) i j m n em en hm hn e =
     sym (p .next i (omega arith))
-    ∙ ap above (meet-above above xs ys p q d (suc i) (suc j) m n (omega arith) (omega arith) hm hn e)
+    ∙ ap above (meet-ancestor above xs ys p q d (suc i) (suc j) m n (omega arith) (omega arith) hm hn e)
     ∙ q .next j (omega arith)
 
 -- on a path a number has one place
@@ -97,11 +97,11 @@ module _ (above : ℕ → ℕ) (xs ys : List ℕ) (p : Descending above xs) (q :
   meet-leading : i ≤ j → i < leading xs ys
   meet-leading le =
       leading-reaches xs ys (j - i) i
-      (ap (λ (x : ℕ). indexOf x ys) (meet-above above xs ys p q i 0 (j - i) i j (omega arith) (omega arith) h l met)
+      (ap (λ (x : ℕ). indexOf x ys) (meet-ancestor above xs ys p q i 0 (j - i) i j (omega arith) (omega arith) h l met)
       ∙ path-place above ys q (j - i) (omega arith))
       h
       (omega arith)
-      (λ k kh. meet-above above xs ys p q (i - k) k (j - i + k) i j (omega arith) (omega arith) h l met)
+      (λ k kh. meet-ancestor above xs ys p q (i - k) k (j - i + k) i j (omega arith) (omega arith) h l met)
 
   -- where it has more above, its first number does not stand in the second
   meet-not-leading : j < i → leading xs ys ≡ 0
@@ -110,7 +110,7 @@ module _ (above : ℕ → ℕ) (xs ys : List ℕ) (p : Descending above xs) (q :
       stands : 0 < leading xs ys → ⊥
       stands some =
           let place = indexOf (getD xs 0 0) ys in
-          let top : getD xs (i - j) 0 ≡ getD ys 0 0 = meet-above above xs ys p q j (i - j) 0 i j (omega arith) (omega arith) h l met in
+          let top : getD xs (i - j) 0 ≡ getD ys 0 0 = meet-ancestor above xs ys p q j (i - j) 0 i j (omega arith) (omega arith) h l met in
           let less : getD xs 0 0 < getD xs (i - j) 0 = rises above xs p (i - j - 1) 0 (i - j) (omega arith) (omega arith) in
           let within : place + 0 < length ys = leading-within xs ys 0 some in
           let same : getD ys place 0 ≡ getD xs 0 0 = indexOf-stands (getD xs 0 0) ys (omega arith) in

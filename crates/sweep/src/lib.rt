@@ -56,8 +56,8 @@ pub fn work_out(
     );
     let levels = levels_of(tops.len());
     shelf::clear(&mut work[orders::SHELF..], levels);
-    cells::fill(partners, model::ABSENT);
-    cells::fill(layouts, model::ABSENT);
+    buffers::fill(partners, model::ABSENT);
+    buffers::fill(layouts, model::ABSENT);
     let tally = turns::sweep(
         parents,
         tops,

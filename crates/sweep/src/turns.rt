@@ -1,9 +1,9 @@
 // The sweep over the running order (000, Algorithm 2): each job still free at its turn takes the smallest place on the shelf in the span of
 // its top.
 use crate::shelf;
-use cells::cell;
-use cells::index;
-use cells::mark;
+use buffers::cell;
+use buffers::index;
+use buffers::mark;
 use model::LayoutNumber;
 use model::Rank;
 use orders::ORDER;

@@ -12,14 +12,14 @@ use lib.ListN.{getD, take, drop, length-drop, take-append-drop}
 use lib.Seq.{getD-drop}
 use lib.Dec.{ltb, leb}
 use borrow.Author.Tests.{lt-ltb, le-leb, leb-true, ltb-true}
-use Rattle.model.specs.Lists.{elem, find, Pairwise}
+use Rattle.model.specs.Lists.{elem, find, AllPairs}
 use Rattle.model.specs.Tree.{FFFF}
 use Rattle.model.specs.Jobs.{Table, jobs, top, solo, shares, topDepth}
 use Rattle.model.specs.Order.{runningOrder, place, slot, slotOrder, earlier}
 use Rattle.model.specs.Greedy.{compatible}
 use Rattle.model.specs.Visits.{askedFrom, askedTo}
-use Rattle.tree.specs.Lists.{answers, getD-mem, select-mem, mem-select, select-pairwise, pairwise-right}
-use Rattle.tree.specs.Sharing.{theorem-6-test}
+use Rattle.tree_laws.specs.Lists.{answers, getD-mem, select-mem, mem-select, select-pairwise, pairwise-right}
+use Rattle.tree_laws.specs.Sharing.{theorem-6-test}
 use Rattle.matching.specs.Lists.{found-or-none, find-some, find-none, find-first, and-both}
 use Rattle.matching.specs.Compatible.{compatible-true, true-compatible}
 use Rattle.matching.specs.Places.{drop-mem}
@@ -122,7 +122,7 @@ module _ (tb : Table) (a : Accepted tb) (i : ℕ) (known : i < jobs tb) where
         let inside : m < jobs tb = running-mem tb (drop-mem (suc i) (runningOrder tb) (s .0)) in
         record { at = place tb m; inside = place-lt tb m inside; later = behind-place tb (suc i) (s .0); is = job-at-place tb m 0 inside; unpaired = s .1 }
 
-    remaining-sorted : Pairwise (Before (earlier tb)) (remaining tb partners (suc i))
+    remaining-sorted : AllPairs (Before (earlier tb)) (remaining tb partners (suc i))
     unfolding remaining
     remaining-sorted =
         select-pairwise (free partners) (Before (earlier tb)) (drop (suc i) (runningOrder tb))

@@ -9,12 +9,12 @@ use lib.ListN.{length, getD, take, drop}
 use lib.Dec.{eqb, leb, ltb, leb·suc-suc}
 use borrow.Author.Tests.{ne-eqb, le-ltb}
 use borrow.Rule.Slice.PartMut.{putMid, same-len-mid}
-use Rattle.model.specs.Lists.{numbers, count}
+use Rattle.model.specs.Lists.{numbers, countWhere}
 use Rattle.model.specs.Tree.{FFFF, firstLeaf, lastLeaf}
 use Rattle.model.specs.Jobs.{Table, jobs, top, bottomLeaf}
 use Rattle.model.specs.Order.{slot}
 use Rattle.model.specs.Visits.{lookupVisits, askedFrom, askedTo}
-use Rattle.tree.specs.Leaves.{last-lt, last-is, leaves-nonempty}
+use Rattle.tree_laws.specs.Leaves.{last-lt, last-is, leaves-nonempty}
 use Rattle.matching.specs.RunningOrder.{slot-lt}
 use Rattle.orders.specs.RankLaws.{count-same, count-never}
 use Rattle.sweeping.specs.Shelf.{Put, LookedUp, slots, entries, smallest}
@@ -100,7 +100,7 @@ module _ (tb : Table) (depths firsts lasts ends partners : List ℕ) (k i j reac
     unfolding askedTo
     to-is to e = e ∙ ap (λ (n : ℕ). getD ends n 0) last-leaf-is ∙ r .prepared .ends-at (lastLeaf (tb .parents) (top tb (jobAt tb i))) last-inside
 
-    from-start : (x : ℕ) → x < length (tb .parents) → startOf ends x ≡ count (λ (j : ℕ). ltb (bottomLeaf tb j) x) (numbers (jobs tb))
+    from-start : (x : ℕ) → x < length (tb .parents) → startOf ends x ≡ countWhere (λ (j : ℕ). ltb (bottomLeaf tb j) x) (numbers (jobs tb))
     from-start zero h = sym (count-never (λ (j : ℕ). ltb (bottomLeaf tb j) 0) (jobs tb) (λ u. le-ltb (bottomLeaf tb u) 0 (omega arith)))
     from-start (suc x) h =
         let back : suc x - 1 ≡ x = omega arith in
@@ -120,9 +120,9 @@ module _ (tb : Table) (depths firsts lasts ends partners : List ℕ) (k i j reac
 
     -- ---- the answer
 
-    pub chosen : (from to place count : ℕ) (work′ : List ℕ) → from ≡ startOf ends f → to ≡ getD ends l 0 → Reaching tb ends partners k (suc i) reached work′ → LookedUp k (drop shelfCells work′) from to place count → Chose tb ends partners k i reached place count work′
+    pub chosen : (from to place countWhere : ℕ) (work′ : List ℕ) → from ≡ startOf ends f → to ≡ getD ends l 0 → Reaching tb ends partners k (suc i) reached work′ → LookedUp k (drop shelfCells work′) from to place countWhere → Chose tb ends partners k i reached place countWhere work′
     unfolding lookupVisits
-    chosen from to place count work′ from-e to-e r′ looked =
+    chosen from to place countWhere work′ from-e to-e r′ looked =
         let found : place ≡ smallest (entries (slots k (drop shelfCells work′))) (askedFrom tb (jobAt tb i)) (askedTo tb (jobAt tb i)) = looked .place-is ∙ rw (from-is from from-e, to-is to to-e) refl in
         let wide′ : jobs tb ≤ 2 ^ k = rw (r .wide) (levels-wide (jobs tb)) in
         let few-levels : k ≤ 12 = rw (r .wide) (levels-least (jobs tb) 12 (r .accepted .few)) in

@@ -19,8 +19,8 @@ use Rattle.model.specs.Greedy.{greedy, compatible, passes}
 use Rattle.model.specs.Visits.{levels, cellCount}
 use Rattle.model.specs.Planning as Planning
 use Rattle.model.specs.Planning.{workCells, partnerIn}
-use Rattle.tree.specs.Lists.{select-all, mem-all}
-use Rattle.tree.specs.Numbers.{numbers-length, numbers-at}
+use Rattle.tree_laws.specs.Lists.{select-all, mem-all}
+use Rattle.tree_laws.specs.Numbers.{numbers-length, numbers-at}
 use Rattle.matching.specs.Passes.{greedy-done}
 use Rattle.matching.specs.RunningOrder.{running-length, running-mem, slot-lt}
 use Rattle.orders.specs.Accepted.{Accepted}

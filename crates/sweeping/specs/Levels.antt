@@ -9,9 +9,9 @@ use native.Mathlib.Decide.{decLe, ℕ-discrete}
 use borrow.Author.Tests.{le-leb, lt-leb}
 use Rattle.model.specs.Visits.{levels, levelsFrom}
 
-pub above-power : (k : ℕ) → k < 2 ^ k
-above-power zero = omega arith
-above-power (suc k) = rw (pow-suc 2 k) (omega (arith, above-power k))
+pub ancestor-power : (k : ℕ) → k < 2 ^ k
+ancestor-power zero = omega arith
+ancestor-power (suc k) = rw (pow-suc 2 k) (omega (arith, ancestor-power k))
 
 pub levels-stop : (n k m : ℕ) → m ≤ 2 ^ k → levelsFrom n k m ≡ k
 unfolding levelsFrom
@@ -23,7 +23,7 @@ unfolding levelsFrom
 levels-go n k m h = rw (lt-leb m (2 ^ k) h) refl
 
 wide-from : (n k m : ℕ) → m ≤ n + k → m ≤ 2 ^ levelsFrom n k m
-wide-from zero k m h = rw (levels-stop zero k m (omega (arith, above-power k))) (omega (arith, above-power k))
+wide-from zero k m h = rw (levels-stop zero k m (omega (arith, ancestor-power k))) (omega (arith, ancestor-power k))
 wide-from (suc n) k m h = elim (decLe m (2 ^ k)) [
   | yes stop ↦ rw (levels-stop (suc n) k m stop) stop
   | no go ↦ rw (levels-go n k m (omega arith)) (wide-from n (suc k) m (omega arith))
@@ -65,7 +65,7 @@ levels-begin m = record { within = omega arith; width-is = refl; rest = rw sub-z
 
 module _ (m level width : ℕ) (l : LevelsTo m level width) where
   pub levels-room : width < m → level < m
-  levels-room h = omega (arith, l .width-is, above-power level)
+  levels-room h = omega (arith, l .width-is, ancestor-power level)
 
   pub levels-step : width < m → LevelsTo m (level + 1) (width * 2)
   levels-step h =

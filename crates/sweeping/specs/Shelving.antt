@@ -16,7 +16,7 @@ use Rattle.model.specs.Tree.{FFFF}
 use Rattle.model.specs.Jobs.{Table, jobs, jobLimit, solo}
 use Rattle.model.specs.Order.{runningOrder, slot}
 use Rattle.matching.specs.RunningOrder.{running-mem, running-length, place-of-job, slot-lt, slot-injective}
-use Rattle.tree.specs.Lists.{getD-mem}
+use Rattle.tree_laws.specs.Lists.{getD-mem}
 use Rattle.sweeping.specs.Shelf.{Shelf, slots, Put}
 use Rattle.orders.specs.Prepared.{orderCells, slotCells, reachCells, shelfCells, jobAt, Prepared}
 use Rattle.sweeping.specs.Sweep.{Shelved, free, onShelf}

@@ -20,7 +20,7 @@ use Rattle.model.specs.Order.{runningOrder}
 use Rattle.model.specs.Greedy.{Pass, pair, single, greedy, without, compatible, passes}
 use Rattle.model.specs.Visits.{passVisits, lookupVisits}
 use Rattle.model.specs.Planning.{partnerIn, pairCount, singleCount}
-use Rattle.tree.specs.Lists.{Distinct, all-mem, mem-all, pairwise-right, select-yes, select-no}
+use Rattle.tree_laws.specs.Lists.{Distinct, all-mem, mem-all, pairwise-right, select-yes, select-no}
 use Rattle.matching.specs.Passes.{vertices, greedy-with, greedy-alone}
 use Rattle.matching.specs.Partners.{passes-known}
 use Rattle.matching.specs.RunningOrder.{running-length, running-distinct}

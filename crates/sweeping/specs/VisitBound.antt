@@ -10,26 +10,26 @@ use native.Mathlib.Omega.{arith}
 use native.Mathlib.Decide.{decLe}
 use lib.Dec.{leb}
 use borrow.Author.Tests.{le-leb, lt-leb}
-use Rattle.model.specs.Visits.{settledCell, cellVisits, visits}
+use Rattle.model.specs.Visits.{insideOrOutside, cellVisits, visits}
 
 module _ (k from lo hi : ℕ) where
   -- a cell wholly inside the span, or wholly outside it, ends the lookup there
-  inside-settled : lo ≤ from → from + 2 ^ k ≤ hi → settledCell k from lo hi ≡ true
+  inside-settled : lo ≤ from → from + 2 ^ k ≤ hi → insideOrOutside k from lo hi ≡ true
   inside-settled a b = rw (le-leb lo from a, le-leb (from + 2 ^ k) hi b)
 
-  before-settled : hi ≤ from → settledCell k from lo hi ≡ true
+  before-settled : hi ≤ from → insideOrOutside k from lo hi ≡ true
   before-settled a = rw (le-leb hi from a, or-true (leb lo from && leb (from + 2 ^ k) hi))
 
-  past-settled : from + 2 ^ k ≤ lo → settledCell k from lo hi ≡ true
+  past-settled : from + 2 ^ k ≤ lo → insideOrOutside k from lo hi ≡ true
   past-settled a = rw (le-leb (from + 2 ^ k) lo a, or-true (leb hi from), or-true (leb lo from && leb (from + 2 ^ k) hi))
 
-  not-settled : from < hi → lo < from + 2 ^ k → (from < lo) ⊎ (hi < from + 2 ^ k) → settledCell k from lo hi ≡ false
+  not-settled : from < hi → lo < from + 2 ^ k → (from < lo) ⊎ (hi < from + 2 ^ k) → insideOrOutside k from lo hi ≡ false
   not-settled a b c = rw (lt-leb hi from a, lt-leb (from + 2 ^ k) lo b) (⊎-elim
       (λ (d : from < lo). rw (lt-leb lo from d))
       (λ (d : hi < from + 2 ^ k). rw (lt-leb (from + 2 ^ k) hi d, and-false (leb lo from)))
       c)
 
-one-visit : (k from lo hi : ℕ) → settledCell k from lo hi ≡ true → cellVisits k from lo hi ≡ 1
+one-visit : (k from lo hi : ℕ) → insideOrOutside k from lo hi ≡ true → cellVisits k from lo hi ≡ 1
 unfolding cellVisits
 one-visit zero from lo hi e = refl
 one-visit (suc k) from lo hi e = rw e
@@ -57,7 +57,7 @@ visits-empty k lo hi h = rw (le-leb hi lo h)
 -- at most both halves are visited
 visits-le : (k from lo hi : ℕ) → cellVisits (suc k) from lo hi ≤ 1 + (cellVisits k from lo hi + cellVisits k (from + 2 ^ k) lo hi)
 unfolding cellVisits
-visits-le k from lo hi = go (settledCell (suc k) from lo hi)
+visits-le k from lo hi = go (insideOrOutside (suc k) from lo hi)
   where
     go : (b : Bool) → cond b 1 (1 + (cellVisits k from lo hi + cellVisits k (from + 2 ^ k) lo hi)) ≤ 1 + (cellVisits k from lo hi + cellVisits k (from + 2 ^ k) lo hi)
     go true = omega arith

@@ -8,7 +8,7 @@ use lib.ListN.{length}
 use lib.Dec.{leb}
 use borrow.Author.Tests.{le-leb, lt-leb, leb-false, eq-eqb, ne-eqb}
 use Rattle.model.specs.Verdict.{accepted, refused}
-use Rattle.model.specs.Tree.{above}
+use Rattle.model.specs.Tree.{ancestorOrSelf}
 use Rattle.model.specs.Jobs.{Table, jobs, jobLimit, jobVerdict}
 use Rattle.model.specs.Table.{endFrame, frameVerdict, contentVerdict, outOfOrder, extended, isEnd}
 use Rattle.table.specs.Steps.{grounds, jobGrounds, jobOf, JobFrame, EndFrame}
@@ -27,11 +27,11 @@ module _ (ps : List ℕ) (m t b line : ℕ) where
   unfolding jobVerdict
   no-bottom h j k = rw (lt-leb jobLimit m h, lt-leb (length ps) t j, le-leb (length ps) b k)
 
-  pub not-below : m < jobLimit → t < length ps → b < length ps → above ps t b ≡ false → refused 6 line ≡ jobGrounds ps m t b line
+  pub not-below : m < jobLimit → t < length ps → b < length ps → ancestorOrSelf ps t b ≡ false → refused 6 line ≡ jobGrounds ps m t b line
   unfolding jobVerdict
   not-below h j k e = rw (lt-leb jobLimit m h, lt-leb (length ps) t j, lt-leb (length ps) b k, e)
 
-  pub is-below : m < jobLimit → t < length ps → b < length ps → above ps t b ≡ true → accepted ≡ jobGrounds ps m t b line
+  pub is-below : m < jobLimit → t < length ps → b < length ps → ancestorOrSelf ps t b ≡ true → accepted ≡ jobGrounds ps m t b line
   unfolding jobVerdict
   is-below h j k e = rw (lt-leb jobLimit m h, lt-leb (length ps) t j, lt-leb (length ps) b k, e)
 

@@ -18,7 +18,7 @@ use Rattle.model.specs.declared.Refusal.{Refusal}
 use Rattle.model.specs.declared.Counts.{Counts}
 use Rattle.model.specs.declared.TableRead.{TableRead}
 use Rattle.model.specs.declared.TableRead.the-variants.{Read, Refused}
-use Rattle.tree.specs.WellFormed.{well-formed}
+use Rattle.tree_laws.specs.WellFormed.{well-formed}
 use Rattle.settle.specs.Spanned.{spanned}
 use Rattle.table.specs.Steps.{Unused, Cleared, onwards, layoutsOnly, Room, LayoutsSettled, LayoutsSoFar, JobsOutcome, BuffersLong, TableHeld, LinesOutcome}
 

@@ -46,10 +46,10 @@ enum Step {
 fn clear(parents: &mut [u16], tops: &mut [u16], bottoms: &mut [u16], marks: &mut [u8])
     ensures { λ r. ⌜ Cleared (now (parents .exit)) (now (tops .exit)) (now (bottoms .exit)) (now (marks .exit)) ⌝ }
 {
-    cells::fill(parents, model::ABSENT);
-    cells::fill(tops, model::ABSENT);
-    cells::fill(bottoms, model::ABSENT);
-    cells::clear_marks(marks);
+    buffers::fill(parents, model::ABSENT);
+    buffers::fill(tops, model::ABSENT);
+    buffers::fill(bottoms, model::ABSENT);
+    buffers::clear_marks(marks);
 }
 
 // The line at `at`, which comes after `layouts` layouts and no job.

@@ -3,7 +3,7 @@
 use borrow.Author.Needs.{needs}
 use mathlib.Core.Path.{_≡_, sym, _∙_}
 use borrow.Author.Tests.{not-true, not-false}
-use Rattle.model.specs.Tree.{above}
+use Rattle.model.specs.Tree.{ancestorOrSelf}
 use Rattle.common.proofs.Climbing.{Climbing, climb-starts, climb-known, still-climbable, climb-more, climb-ends}
 use Rattle.common.proofs.climb.Statement.{statement}
 use Rattle.common.proofs.climb.Tie as tie
@@ -21,7 +21,7 @@ at-or-below-requires : tie.Need-at-or-below-requires Inv-loop μ-loop
 at-or-below-requires c κs = search needs
 
 -- the loop's test is the ancestor test
-answered : (c : tie.After-at-or-below Inv-loop μ-loop) → c .at-or-below .result ≡ above (c .before .before .before .before .before .before .before .args .parents .now) (c .before .loop .at .0) (c .before .before .before .before .before .before .before .args .y .0)
+answered : (c : tie.After-at-or-below Inv-loop μ-loop) → c .at-or-below .result ≡ ancestorOrSelf (c .before .before .before .before .before .before .before .args .parents .now) (c .before .loop .at .0) (c .before .before .before .before .before .before .before .args .y .0)
 answered c =
     let pre = c .before .before .before .before .before .before .before .pre in
     c .at-or-below .ensures _ (pre .spanned) (climb-known _ _ _ _ _ _ _ pre _ (c .before .loop .inv)) (pre .y-known)

@@ -5,7 +5,7 @@ use native.Mathlib.Omega.{arith}
 use Prim.Native.Nat.{_-_}
 use mathlib.Core.Path.{_∙_}
 use lib.ListN.{length, length-set}
-use Rattle.common.proofs.Skips.{SkipsSet, root-set, above-set, one-more-set, all-set}
+use Rattle.common.proofs.Skips.{SkipsSet, root-set, ancestor-set, one-more-set, all-set}
 use Rattle.common.proofs.set_skips.Statement.{statement}
 use Rattle.common.proofs.set_skips.Tie as tie
 
@@ -22,7 +22,7 @@ loop-holds : tie.Need-loop-holds Inv-loop μ-loop
 loop-holds c = root-set _ _ (c .before .before .before .args .skips .now) (c .before .before .before .pre)
 
 skip-of-requires : tie.Need-skip-of-requires Inv-loop μ-loop
-skip-of-requires c κs = above-set _ _ _ _ _ (c .before .loop-test .taken) (c .before .before .loop .inv)
+skip-of-requires c κs = ancestor-set _ _ _ _ _ (c .before .loop-test .taken) (c .before .before .loop .inv)
 
 mul-skips : tie.Need-mul-skips Inv-loop μ-loop
 mul-skips c = search needs

@@ -2,7 +2,7 @@ use borrow.Author.Needs.{needs}
 use native.Mathlib.Omega.{arith}
 use Prim.Native.Nat.{ℕ, _<_, _+_, _-_}
 use mathlib.Core.List.{List}
-use Rattle.tree.specs.Leaves.{leaves-nonempty}
+use Rattle.tree_laws.specs.Leaves.{leaves-nonempty}
 use Rattle.model.specs.Tree.{FFFF, layoutLimit}
 use Rattle.settle.specs.Numbering.{Numberable}
 use Rattle.settle.proofs.Walk.{ChildrenDone, none-done, current-child, one-done, sibling-greater, all-done, next-small, leaf-numbered, some-children, self-numbered, child-numberable}

@@ -1,6 +1,6 @@
 use borrow.Author.Needs.{needs}
 use mathlib.Core.Path.{refl}
-use Rattle.tree.specs.WellFormed.{Tree, well-formed}
+use Rattle.tree_laws.specs.WellFormed.{Tree, well-formed}
 use Rattle.settle.proofs.Outcome.{short-depths, short-firsts, short-lasts, too-many, no-layouts, wrong-layout, no-wrong, all-right, refused-as, settled-as}
 use Rattle.settle.proofs.settle_layouts.Statement.{statement}
 use Rattle.settle.proofs.settle_layouts.Tie as tie

@@ -11,13 +11,13 @@ use lib.Dec.{ltb}
 use Rattle.model.specs.Lists.{numbers, select, All}
 use Rattle.model.specs.Tree.{FFFF}
 use Rattle.model.specs.Jobs.{Table, jobs, jobLimit}
-use Rattle.model.specs.Rival.{Pair, pairsOf, Foremost}
+use Rattle.model.specs.Rival.{Pair, pairsOf, MaximumAtEveryCut}
 use Rattle.model.specs.Planning.{partnerIn, partners, pairs, singles}
 use Rattle.model.specs.Greedy.{passes}
-use Rattle.tree.specs.Lists.{answers, mem-all}
-use Rattle.tree.specs.Numbers.{numbers-mem, numbers-length}
-use Rattle.tree.specs.WellFormed.{Tree}
-use Rattle.tree.specs.Sharing.{Downward}
+use Rattle.tree_laws.specs.Lists.{answers, mem-all}
+use Rattle.tree_laws.specs.Numbers.{numbers-mem, numbers-length}
+use Rattle.tree_laws.specs.WellFormed.{Tree}
+use Rattle.tree_laws.specs.Sharing.{Downward}
 use Rattle.matching.specs.Partners.{partner-apart, partners-symmetric, our-pairs, our-pairs-all, singles-are}
 use Rattle.matching.specs.Demand.{maximum-at-every-cut}
 use Rattle.matching.specs.Singles.{our-singles, our-passes, rival-passes}
@@ -64,7 +64,7 @@ pub foremost :
     → ((j : ℕ) → j < jobs tb → Downward tb j)
     → jobs tb ≤ jobLimit
     → (rest : List ℕ)
-    → Foremost tb (partners tb ++ rest) (pairs tb) (singles tb)
+    → MaximumAtEveryCut tb (partners tb ++ rest) (pairs tb) (singles tb)
 foremost tb t down small rest = record {
   apart = λ i h e. partner-apart tb small i h (sym (partners-front tb rest i h) ∙ e);
   back = λ i j h k e. partners-front tb rest j k ∙ partners-symmetric tb small i j h k (sym (partners-front tb rest i h) ∙ e);

@@ -11,7 +11,7 @@ use native.Mathlib.Omega.{arith}
 use lib.ListN.{length, getD, length-append, List·getD-append}
 use lib.Dec.{eqb}
 use borrow.Author.Tests.{eqb-true, eqb-false, eq-eqb, ne-eqb, not-true, not-false}
-use Rattle.model.specs.Lists.{numbersFrom, indexOf, lastD, elem, any, select, All, Pairwise}
+use Rattle.model.specs.Lists.{numbersFrom, indexOf, lastD, elem, anyOf, select, All, AllPairs}
 
 -- ---- members
 
@@ -52,7 +52,7 @@ getD-inside (x ∷ xs) (suc i) d e h = getD-inside xs i d e (omega arith)
 
 module _ (R : ℕ → ℕ → Type 0) where
   -- a list in two parts: each part, and every member of the first with every member of the second
-  pub pairwise-append : (xs ys : List ℕ) → Pairwise R xs → Pairwise R ys → ((x y : ℕ) → Mem x xs → Mem y ys → R x y) → Pairwise R (xs ++ ys)
+  pub pairwise-append : (xs ys : List ℕ) → AllPairs R xs → AllPairs R ys → ((x y : ℕ) → Mem x xs → Mem y ys → R x y) → AllPairs R (xs ++ ys)
   pairwise-append [] ys p q f = q
   pairwise-append (x ∷ xs) ys p q f = (mem-all (R x) (xs ++ ys) first, pairwise-append xs ys (p .1) q (λ x y m. f x y (there m)))
     where
@@ -60,22 +60,22 @@ module _ (R : ℕ → ℕ → Type 0) where
       first y m = ⊎-elim (λ (m : Mem y xs). all-mem (R x) (p .0) m) (f x y (here refl)) (mem-append xs m)
 
   -- and back: the second part, and a member of the first with one of the second
-  pub pairwise-right : (xs ys : List ℕ) → Pairwise R (xs ++ ys) → Pairwise R ys
+  pub pairwise-right : (xs ys : List ℕ) → AllPairs R (xs ++ ys) → AllPairs R ys
   pairwise-right [] ys p = p
   pairwise-right (x ∷ xs) ys p = pairwise-right xs ys (p .1)
 
-  pub pairwise-across : (xs ys : List ℕ) → Pairwise R (xs ++ ys) → (x y : ℕ) → Mem x xs → Mem y ys → R x y
+  pub pairwise-across : (xs ys : List ℕ) → AllPairs R (xs ++ ys) → (x y : ℕ) → Mem x xs → Mem y ys → R x y
   pairwise-across xs ys p x y (here {x = z} {xs = zs} e) n = subst (λ (z : ℕ). R z y) (sym e) (all-mem (R z) (p .0) (mem-right zs n))
   pairwise-across xs ys p x y (there {x = z} {xs = zs} m) n = pairwise-across zs ys (p .1) x y m n
 
 -- every member is the head, or the head has the relation to it
-pub head-first : (R : ℕ → ℕ → Type 0) {y : ℕ} {l : List ℕ} (d : ℕ) → Pairwise R l → Mem y l → (y ≡ headD l d) ⊎ R (headD l d) y
+pub head-first : (R : ℕ → ℕ → Type 0) {y : ℕ} {l : List ℕ} (d : ℕ) → AllPairs R l → Mem y l → (y ≡ headD l d) ⊎ R (headD l d) y
 unfolding headD
 head-first R d p (here e) = inl e
 head-first R d p (there {x = x} m) = inr (all-mem (R x) (p .0) m)
 
 -- a relation that follows for members holds where the first holds
-pub pairwise-imply : (R S : ℕ → ℕ → Type 0) (l : List ℕ) → ((x y : ℕ) → Mem x l → Mem y l → R x y → S x y) → Pairwise R l → Pairwise S l
+pub pairwise-imply : (R S : ℕ → ℕ → Type 0) (l : List ℕ) → ((x y : ℕ) → Mem x l → Mem y l → R x y → S x y) → AllPairs R l → AllPairs S l
 pairwise-imply R S [] f p = tt
 pairwise-imply R S (x ∷ xs) f p =
     (mem-all (S x) xs (λ y m. f x y (here refl) (there m) (all-mem (R x) (p .0) m)), pairwise-imply R S xs (λ y z m n. f y z (there m) (there n)) (p .1))
@@ -118,7 +118,7 @@ module _ (p : ℕ → Bool) where
       (answers (p x))
 
   -- a selection keeps the relation of earlier and later members
-  pub select-pairwise : (R : ℕ → ℕ → Type 0) (l : List ℕ) → Pairwise R l → Pairwise R (select p l)
+  pub select-pairwise : (R : ℕ → ℕ → Type 0) (l : List ℕ) → AllPairs R l → AllPairs R (select p l)
   unfolding select
   select-pairwise R [] q = tt
   select-pairwise R (x ∷ xs) q = ⊎-elim
@@ -145,7 +145,7 @@ mem-range y a (suc n) h k = ⊎-elim
     (λ (l : a < y). there (mem-range y (suc a) n l (omega arith)))
     (eq-or-lt-of-le h)
 
-pub range-rises : (a n : ℕ) → Pairwise _<_ (numbersFrom a n)
+pub range-rises : (a n : ℕ) → AllPairs _<_ (numbersFrom a n)
 unfolding numbersFrom
 range-rises a zero = tt
 range-rises a (suc n) = (mem-all (λ (y : ℕ). a < y) (numbersFrom (suc a) n) (λ y m. range-mem (suc a) n m .0), range-rises (suc a) n)
@@ -177,10 +177,10 @@ flat-append f (x ∷ xs) m = rw (flat-append f xs m) (sym (append-assoc (f x) (f
 
 -- no number stands in the list twice
 abbrev pub Distinct : List ℕ → Type 0
-Distinct l = Pairwise (λ (x y : ℕ). x ≢ y) l
+Distinct l = AllPairs (λ (x y : ℕ). x ≢ y) l
 
 -- lists without repeats, no two of which have a common member, make one without repeats
-pub flat-distinct : (f : ℕ → List ℕ) (l : List ℕ) → ((c : ℕ) → Mem c l → Distinct (f c)) → Pairwise (λ (c d : ℕ). (y : ℕ) → Mem y (f c) → Mem y (f d) → ⊥) l → Distinct (flatMap f l)
+pub flat-distinct : (f : ℕ → List ℕ) (l : List ℕ) → ((c : ℕ) → Mem c l → Distinct (f c)) → AllPairs (λ (c d : ℕ). (y : ℕ) → Mem y (f c) → Mem y (f d) → ⊥) l → Distinct (flatMap f l)
 unfolding flatMap
 flat-distinct f [] each apart = tt
 flat-distinct f (x ∷ xs) each apart =
@@ -304,15 +304,15 @@ mem-elem {y} (here {x = x} {xs = xs} e) = rw (eq-eqb y x e)
 mem-elem {y} (there {x = x} {xs = xs} m) = or-right (eqb y x) (elem y xs) (mem-elem m)
 
 -- `any` passes exactly if a member does
-pub any-mem : (p : ℕ → Bool) (l : List ℕ) → any p l ≡ true → (y : ℕ) × (Mem y l × (p y ≡ true))
-unfolding any
+pub any-mem : (p : ℕ → Bool) (l : List ℕ) → anyOf p l ≡ true → (y : ℕ) × (Mem y l × (p y ≡ true))
+unfolding anyOf
 any-mem p [] e = absurd (false≢true e)
 any-mem p (x ∷ xs) e = ⊎-elim
     (λ (e : p x ≡ true). (x, (here refl, e)))
-    (λ (e : any p xs ≡ true). let r = any-mem p xs e in (r .0, (there (r .1 .0), r .1 .1)))
-    (or-cases (p x) (any p xs) e)
+    (λ (e : anyOf p xs ≡ true). let r = any-mem p xs e in (r .0, (there (r .1 .0), r .1 .1)))
+    (or-cases (p x) (anyOf p xs) e)
 
-pub mem-any : (p : ℕ → Bool) {y : ℕ} {l : List ℕ} → Mem y l → p y ≡ true → any p l ≡ true
-unfolding any
+pub mem-any : (p : ℕ → Bool) {y : ℕ} {l : List ℕ} → Mem y l → p y ≡ true → anyOf p l ≡ true
+unfolding anyOf
 mem-any p {y} (here {x = x} {xs = xs} e) h = rw (ap p (sym e) ∙ h)
-mem-any p (there {x = x} {xs = xs} m) h = or-right (p x) (any p xs) (mem-any p m h)
+mem-any p (there {x = x} {xs = xs} m) h = or-right (p x) (anyOf p xs) (mem-any p m h)

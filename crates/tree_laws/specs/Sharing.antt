@@ -14,54 +14,54 @@ use borrow.Author.Tests.{eqb-true, eq-eqb, ne-eqb}
 use Rattle.model.specs.Lists.{elem}
 use Rattle.model.specs.Tree.{depth, firstLeaf, lastLeaf}
 use Rattle.model.specs.Jobs.{Table, top, bottom, upTo, pathFrom, path, shares, topDepth, bottomLeaf}
-use Rattle.tree.specs.Lists.{same-test, or-cases, or-right, elem-mem, mem-elem, any-mem, mem-any}
-use Rattle.tree.specs.WellFormed.{Tree}
-use Rattle.tree.specs.Chain.{Above, self, up, chain-root, chain-child, above-trans, above-cases, above-le, above-linear}
-use Rattle.tree.specs.Spans.{InSpan, inSpan, in-span-true, true-in-span, above-span, span-above}
+use Rattle.tree_laws.specs.Lists.{same-test, or-cases, or-right, elem-mem, mem-elem, any-mem, mem-any}
+use Rattle.tree_laws.specs.WellFormed.{Tree}
+use Rattle.tree_laws.specs.Chain.{AncestorOrSelf, self, up, ancestors-root, ancestors-child, ancestor-trans, ancestor-cases, ancestor-le, ancestor-linear}
+use Rattle.tree_laws.specs.Spans.{InSpan, inSpan, in-span-true, true-in-span, ancestor-span, span-ancestor}
 
 module _ (ps : List ℕ) (t : Tree ps) where
   -- the path of a single layout, and of a bottom below its top
   pub path-one : (b : ℕ) → pathFrom ps b b ≡ b ∷ []
   unfolding pathFrom upTo
-  path-one zero = rw (chain-root ps t)
-  path-one (suc b) = rw (chain-child ps t (suc b) (omega arith), eq-eqb (suc b) (suc b) refl)
+  path-one zero = rw (ancestors-root ps t)
+  path-one (suc b) = rw (ancestors-child ps t (suc b) (omega arith), eq-eqb (suc b) (suc b) refl)
 
-  pub path-up : (u b : ℕ) → 0 < b → Above ps u (getD ps b 0) → pathFrom ps u b ≡ b ∷ pathFrom ps u (getD ps b 0)
+  pub path-up : (u b : ℕ) → 0 < b → AncestorOrSelf ps u (getD ps b 0) → pathFrom ps u b ≡ b ∷ pathFrom ps u (getD ps b 0)
   unfolding pathFrom upTo
-  path-up u b h a = rw (chain-child ps t b h, ne-eqb b u (λ e. omega (arith, above-le ps t a, t .smaller b h)))
+  path-up u b h a = rw (ancestors-child ps t b h, ne-eqb b u (λ e. omega (arith, ancestor-le ps t a, t .smaller b h)))
 
   -- what lies on the path from b up to u is above b and below u, or one of them: the path is the chain of b, cut off after u
-  pub path-above : (x : ℕ) {u b : ℕ} → Above ps u b → elem x (pathFrom ps u b) ≡ true → Above ps x b × Above ps u x
+  pub path-ancestor : (x : ℕ) {u b : ℕ} → AncestorOrSelf ps u b → elem x (pathFrom ps u b) ≡ true → AncestorOrSelf ps x b × AncestorOrSelf ps u x
   unfolding elem
-  path-above x (self {x = b}) e =
+  path-ancestor x (self {x = b}) e =
       let same : x ≡ b = eqb-true x b (sym (or-false (eqb x b)) ∙ (rw (path-one b) at e)) in
       (rw same self, rw same self)
-  path-above x (up {u = u} {x = b} h a) e = ⊎-elim
+  path-ancestor x (up {u = u} {x = b} h a) e = ⊎-elim
       (λ (e : eqb x b ≡ true). let same : x ≡ b = eqb-true x b e in (rw same self, rw same (up h a)))
-      (λ (e : elem x (pathFrom ps u (getD ps b 0)) ≡ true). let r = path-above x a e in (up h (r .0), r .1))
+      (λ (e : elem x (pathFrom ps u (getD ps b 0)) ≡ true). let r = path-ancestor x a e in (up h (r .0), r .1))
       (or-cases (eqb x b) (elem x (pathFrom ps u (getD ps b 0))) (rw (path-up u b h a) at e))
 
   -- and all such layouts lie on it
-  pub above-path : {x u b : ℕ} → Above ps u b → Above ps x b → Above ps u x → elem x (pathFrom ps u b) ≡ true
+  pub ancestor-path : {x u b : ℕ} → AncestorOrSelf ps u b → AncestorOrSelf ps x b → AncestorOrSelf ps u x → elem x (pathFrom ps u b) ≡ true
   unfolding elem
-  above-path {x} (self {x = b}) below upper = rw (path-one b, eq-eqb x b (le-antisymm (above-le ps t below) (above-le ps t upper)))
-  above-path {x} (up {u = u} {x = b} h a) below upper = rw (path-up u b h a) (⊎-elim
+  ancestor-path {x} (self {x = b}) below upper = rw (path-one b, eq-eqb x b (le-antisymm (ancestor-le ps t below) (ancestor-le ps t upper)))
+  ancestor-path {x} (up {u = u} {x = b} h a) below upper = rw (path-up u b h a) (⊎-elim
       (λ (same : x ≡ b). rw (eq-eqb x b same))
-      (λ (r : (0 < b) × Above ps x (getD ps b 0)). or-right (eqb x b) (elem x (pathFrom ps u (getD ps b 0))) (above-path a (r .1) upper))
-      (above-cases ps t below))
+      (λ (r : (0 < b) × AncestorOrSelf ps x (getD ps b 0)). or-right (eqb x b) (elem x (pathFrom ps u (getD ps b 0))) (ancestor-path a (r .1) upper))
+      (ancestor-cases ps t below))
 
   -- x lies on the path from b up to u exactly if it is above b and u is above it
-  pub on-path : (x : ℕ) {u b : ℕ} → Above ps u b → (elem x (pathFrom ps u b) ≡ true) ↔ (Above ps x b × Above ps u x)
-  on-path x a = (path-above x a, λ h. above-path a (h .0) (h .1))
+  pub on-path : (x : ℕ) {u b : ℕ} → AncestorOrSelf ps u b → (elem x (pathFrom ps u b) ≡ true) ↔ (AncestorOrSelf ps x b × AncestorOrSelf ps u x)
+  on-path x a = (path-ancestor x a, λ h. ancestor-path a (h .0) (h .1))
 
 -- a job whose bottom is at or below its top
 abbrev pub Downward : Table → ℕ → Type 0
-Downward tb j = Above (tb .parents) (top tb j) (bottom tb j)
+Downward tb j = AncestorOrSelf (tb .parents) (top tb j) (bottom tb j)
 
 -- layout x lies on the path of job j
 pub record On (tb : Table) (x j : ℕ) : Type 0 where
-  pub lower : Above (tb .parents) x (bottom tb j)
-  pub upper : Above (tb .parents) (top tb j) x
+  pub lower : AncestorOrSelf (tb .parents) x (bottom tb j)
+  pub upper : AncestorOrSelf (tb .parents) (top tb j) x
 
 -- job j passes the top of job i, as the numbers tell: the first leaf of its bottom lies in the span of top i, and depth of top j ≤ depth of top i ≤ depth of bottom j
 pub record Passes (tb : Table) (j i : ℕ) : Type 0 where
@@ -85,8 +85,8 @@ module _ (tb : Table) (t : Tree (tb .parents)) where
   unfolding shares path
   shares-meet i j a b e =
       let r = any-mem (λ (x : ℕ). elem x (path tb j)) (path tb i) e in
-      let p = path-above (tb .parents) t (r .0) a (mem-elem (r .1 .0)) in
-      let q = path-above (tb .parents) t (r .0) b (r .1 .1) in
+      let p = path-ancestor (tb .parents) t (r .0) a (mem-elem (r .1 .0)) in
+      let q = path-ancestor (tb .parents) t (r .0) b (r .1 .1) in
       (r .0, (record { lower = p .0; upper = p .1 }, record { lower = q .0; upper = q .1 }))
 
   -- and jobs with such a layout share
@@ -94,9 +94,9 @@ module _ (tb : Table) (t : Tree (tb .parents)) where
   unfolding shares path
   meet-shares {x} i j p q =
       let ps : List ℕ = tb .parents in
-      let down : Downward tb i = above-trans ps t (p .upper) (p .lower) in
-      let down′ : Downward tb j = above-trans ps t (q .upper) (q .lower) in
-      mem-any (λ (x : ℕ). elem x (path tb j)) (elem-mem x (path tb i) (above-path ps t down (p .lower) (p .upper))) (above-path ps t down′ (q .lower) (q .upper))
+      let down : Downward tb i = ancestor-trans ps t (p .upper) (p .lower) in
+      let down′ : Downward tb j = ancestor-trans ps t (q .upper) (q .lower) in
+      mem-any (λ (x : ℕ). elem x (path tb j)) (elem-mem x (path tb i) (ancestor-path ps t down (p .lower) (p .upper))) (ancestor-path ps t down′ (q .lower) (q .upper))
 
   -- a job's top is on its path
   top-on : (i : ℕ) → Downward tb i → On tb (top tb i) i
@@ -105,7 +105,7 @@ module _ (tb : Table) (t : Tree (tb .parents)) where
   -- where two paths meet, the deeper top lies on the path of the other: both tops are above the layout where they meet
   pub meet-top : {z : ℕ} (i j : ℕ) → On tb z i → On tb z j → topDepth tb j ≤ topDepth tb i → On tb (top tb i) j
   unfolding topDepth
-  meet-top i j p q d = record { lower = above-trans (tb .parents) t (p .upper) (q .lower); upper = above-linear (tb .parents) t (q .upper) (p .upper) d }
+  meet-top i j p q d = record { lower = ancestor-trans (tb .parents) t (p .upper) (q .lower); upper = ancestor-linear (tb .parents) t (q .upper) (p .upper) d }
 
   -- (T) if two jobs share, the deeper top lies on the path of the other
   pub top-on-path : (i j : ℕ) → Downward tb i → Downward tb j → topDepth tb j ≤ topDepth tb i → shares tb i j ≡ true → On tb (top tb i) j
@@ -123,13 +123,13 @@ module _ (tb : Table) (t : Tree (tb .parents)) where
       where
         passes : shares tb i j ≡ true → Passes tb j i
         passes e =
-            let s = above-span (tb .parents) t inside′ (top-on-path i j a b order e .lower) in
+            let s = ancestor-span (tb .parents) t inside′ (top-on-path i j a b order e .lower) in
             record { leaf = s .0; upper = order; lower = s .1 }
 
         shared : Passes tb j i → shares tb i j ≡ true
         shared p =
-            let above : Above (tb .parents) (top tb i) (bottom tb j) = span-above (tb .parents) t inside inside′ (p .leaf) (p .lower) in
-            on-path-top i j a (record { lower = above; upper = above-linear (tb .parents) t b above order })
+            let above : AncestorOrSelf (tb .parents) (top tb i) (bottom tb j) = span-ancestor (tb .parents) t inside inside′ (p .leaf) (p .lower) in
+            on-path-top i j a (record { lower = above; upper = ancestor-linear (tb .parents) t b above order })
 
     -- the same as an equation of tests
     pub theorem-6-test : shares tb i j ≡ (leb (firstLeaf (tb .parents) (top tb i)) (bottomLeaf tb j) && leb (bottomLeaf tb j) (lastLeaf (tb .parents) (top tb i)) && leb (topDepth tb i) (depth (tb .parents) (bottom tb j)))
@@ -160,5 +160,5 @@ module _ (tb : Table) (t : Tree (tb .parents)) where
       below : topDepth tb j ≤ topDepth tb y → On tb (top tb y) x
       below d =
           let y-on-j : On tb (top tb y) j = top-on-path y j ay aj d (shares-symmetric tb y j ∙ g) in
-          let y-above-v : Above (tb .parents) (top tb y) (top tb v) = above-linear (tb .parents) t (y-on-j .lower) (v-on-j .lower) yv in
-          record { lower = above-trans (tb .parents) t y-above-v (v-on-x .lower); upper = above-trans (tb .parents) t (on-x .upper) (y-on-j .upper) }
+          let y-above-v : AncestorOrSelf (tb .parents) (top tb y) (top tb v) = ancestor-linear (tb .parents) t (y-on-j .lower) (v-on-j .lower) yv in
+          record { lower = ancestor-trans (tb .parents) t y-above-v (v-on-x .lower); upper = ancestor-trans (tb .parents) t (on-x .upper) (y-on-j .upper) }

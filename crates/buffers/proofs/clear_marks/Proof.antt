@@ -1,26 +1,23 @@
--- `cells::fill` meets its contract: the cells passed hold the value, the others are as they were.
+-- `cells::clear_marks` meets its contract: the cells passed hold the value, the others are as they were.
 -- Assumes nothing.
 use borrow.Author.Needs.{needs}
 use Prim.Native.Nat.{_-_}
 use lib.ListN.{length}
-use Rattle.cells.proofs.Filled.{FilledTo, filled-none, filled-more, filled-all}
-use Rattle.cells.proofs.fill.Statement.{statement}
-use Rattle.cells.proofs.fill.Tie as tie
+use Rattle.buffers.proofs.Filled.{FilledTo, filled-none, filled-more, filled-all}
+use Rattle.buffers.proofs.clear_marks.Statement.{statement}
+use Rattle.buffers.proofs.clear_marks.Tie as tie
 
 abbrev Inv-loop : tie.InvT-loop
-Inv-loop cells₀ value i₀ cells i = FilledTo value cells₀ i cells
+Inv-loop marks₀ i₀ marks i = FilledTo 0 marks₀ i marks
 
 abbrev μ-loop : tie.MeasureT-loop
-μ-loop cells₀ value i₀ cells i = length cells₀ - i
+μ-loop marks₀ i₀ marks i = length marks₀ - i
 
 loop-holds : tie.Need-loop-holds Inv-loop μ-loop
 loop-holds c = filled-none _ _
 
-mul-cells : tie.Need-mul-cells Inv-loop μ-loop
-mul-cells c = search needs
-
-slice-write-cells : tie.Need-slice-write-cells Inv-loop μ-loop
-slice-write-cells c = search needs
+slice-write-marks : tie.Need-slice-write-marks Inv-loop μ-loop
+slice-write-marks c = search needs
 
 add-i : tie.Need-add-i Inv-loop μ-loop
 add-i c = search needs
@@ -37,15 +34,14 @@ same-length c = search needs
 returns : tie.Need-returns Inv-loop μ-loop
 returns c = filled-all _ _ _ _ (c .loop-test .left) (c .before .loop .inv)
 
-pub fill-spec : {M : Type 1} → statement M
-fill-spec =
+pub clear-marks-spec : {M : Type 1} → statement M
+clear-marks-spec =
     tie.close
     (tie.spec
     Inv-loop
     μ-loop
     loop-holds
-    mul-cells
-    slice-write-cells
+    slice-write-marks
     add-i
     loop-less
     loop-again

@@ -8,10 +8,10 @@ use native.Mathlib.Decide.{decLe}
 use native.Mathlib.Omega.{arith}
 use lib.ListN.{length, getD, length-append}
 use Rattle.model.specs.Tree.{children, orSelf, leavesWithin, leaves, firstLeaf, lastLeaf, depth}
-use Rattle.tree.specs.Lists.{Distinct, pairwise-imply, mem-all, mem-split, flat-mem, flat-agree, flat-append, flat-distinct, first-place, last-place, distinct-bound}
-use Rattle.tree.specs.WellFormed.{Tree}
-use Rattle.tree.specs.Chain.{Above, self, up, above-root, above-linear}
-use Rattle.tree.specs.Children.{child-parent, parent-child, child-greater, child-above, child-unique, children-rise}
+use Rattle.tree_laws.specs.Lists.{Distinct, pairwise-imply, mem-all, mem-split, flat-mem, flat-agree, flat-append, flat-distinct, first-place, last-place, distinct-bound}
+use Rattle.tree_laws.specs.WellFormed.{Tree}
+use Rattle.tree_laws.specs.Chain.{AncestorOrSelf, self, up, ancestor-root, ancestor-linear}
+use Rattle.tree_laws.specs.Children.{child-parent, parent-child, child-greater, child-ancestor, child-unique, children-rise}
 
 -- ---- `orSelf`: a layout's own leaf, where its children have none
 
@@ -78,26 +78,26 @@ module _ (ps : List ℕ) (t : Tree ps) where
       levels (suc n) x h k = step x h (λ c m. levels n c (child-parent ps t h m .0) (omega (arith, child-greater ps t h m)))
 
   -- a leaf of x is a layout at or below x
-  pub leaf-above : (x : ℕ) → x < length ps → (l : ℕ) → Mem l (leaves ps x) → Above ps x l × (l < length ps)
-  leaf-above = tree-induction (λ (x : ℕ). (l : ℕ) → Mem l (leaves ps x) → Above ps x l × (l < length ps)) step
+  pub leaf-ancestor : (x : ℕ) → x < length ps → (l : ℕ) → Mem l (leaves ps x) → AncestorOrSelf ps x l × (l < length ps)
+  leaf-ancestor = tree-induction (λ (x : ℕ). (l : ℕ) → Mem l (leaves ps x) → AncestorOrSelf ps x l × (l < length ps)) step
     where
-      step : (x : ℕ) → x < length ps → ((c : ℕ) → Mem c (children ps x) → (l : ℕ) → Mem l (leaves ps c) → Above ps c l × (l < length ps)) → (l : ℕ) → Mem l (leaves ps x) → Above ps x l × (l < length ps)
+      step : (x : ℕ) → x < length ps → ((c : ℕ) → Mem c (children ps x) → (l : ℕ) → Mem l (leaves ps c) → AncestorOrSelf ps c l × (l < length ps)) → (l : ℕ) → Mem l (leaves ps x) → AncestorOrSelf ps x l × (l < length ps)
       step x h ih l m = ⊎-elim
           (λ (e : l ≡ x). (rw e self, omega arith))
           (λ (m : Mem l (flatMap (leaves ps) (children ps x))). of-child (flat-mem (leaves ps) (children ps x) m))
           (self-mem x (flatMap (leaves ps) (children ps x)) (rw (leaves-step x h) at m))
         where
-          of-child : (c : ℕ) × (Mem c (children ps x) × Mem l (leaves ps c)) → Above ps x l × (l < length ps)
-          of-child r = let below = ih (r .0) (r .1 .0) l (r .1 .1) in (child-above ps t h (r .1 .0) (below .0), below .1)
+          of-child : (c : ℕ) × (Mem c (children ps x) × Mem l (leaves ps c)) → AncestorOrSelf ps x l × (l < length ps)
+          of-child r = let below = ih (r .0) (r .1 .0) l (r .1 .1) in (child-ancestor ps t h (r .1 .0) (below .0), below .1)
 
   -- layouts neither of which is above the other have no leaf in common: two layouts above one leaf are on one chain
-  pub leaves-apart : (u v : ℕ) → u < length ps → v < length ps → (Above ps u v → ⊥) → (Above ps v u → ⊥) → (l : ℕ) → Mem l (leaves ps u) → Mem l (leaves ps v) → ⊥
+  pub leaves-apart : (u v : ℕ) → u < length ps → v < length ps → (AncestorOrSelf ps u v → ⊥) → (AncestorOrSelf ps v u → ⊥) → (l : ℕ) → Mem l (leaves ps u) → Mem l (leaves ps v) → ⊥
   leaves-apart u v h k nuv nvu l m n =
-      let a = leaf-above u h l m .0 in
-      let b = leaf-above v k l n .0 in
+      let a = leaf-ancestor u h l m .0 in
+      let b = leaf-ancestor v k l n .0 in
       elim (decLe (depth ps u) (depth ps v)) [
-        | yes d ↦ nuv (above-linear ps t a b d)
-        | no d ↦ nvu (above-linear ps t b a (omega arith))
+        | yes d ↦ nuv (ancestor-linear ps t a b d)
+        | no d ↦ nvu (ancestor-linear ps t b a (omega arith))
       ]
 
   -- no leaf of x stands twice: two children have no leaf in common, as only one of them is above it
@@ -106,7 +106,7 @@ module _ (ps : List ℕ) (t : Tree ps) where
     where
       apart : (x : ℕ) → x < length ps → (c d : ℕ) → Mem c (children ps x) → Mem d (children ps x) → c < d → (l : ℕ) → Mem l (leaves ps c) → Mem l (leaves ps d) → ⊥
       apart x h c d m n less l p q =
-          let same : c ≡ d = child-unique ps t h m n (leaf-above c (child-parent ps t h m .0) l p .0) (leaf-above d (child-parent ps t h n .0) l q .0) in
+          let same : c ≡ d = child-unique ps t h m n (leaf-ancestor c (child-parent ps t h m .0) l p .0) (leaf-ancestor d (child-parent ps t h n .0) l q .0) in
           omega arith
 
       step : (x : ℕ) → x < length ps → ((c : ℕ) → Mem c (children ps x) → Distinct (leaves ps c)) → Distinct (leaves ps x)
@@ -135,7 +135,7 @@ module _ (ps : List ℕ) (t : Tree ps) where
       flat-length (c ∷ l) k = simp length-append (omega (arith, leaves-nonempty ps c))
 
   -- the leaves of a layout above x hold those of x in one piece: climb, and at each child split its parent's
-  pub part-of : {u x : ℕ} → x < length ps → Above ps u x → (before : List ℕ) × (after : List ℕ) × (leaves ps u ≡ before ++ (leaves ps x ++ after))
+  pub part-of : {u x : ℕ} → x < length ps → AncestorOrSelf ps u x → (before : List ℕ) × (after : List ℕ) × (leaves ps u ≡ before ++ (leaves ps x ++ after))
   part-of h (self {x = x}) = ([], [], sym (append-nil (leaves ps x)))
   part-of {u} h (up {x = x} k a) =
       let below : getD ps x 0 < length ps = omega (arith, t .smaller x k) in
@@ -156,7 +156,7 @@ module _ (ps : List ℕ) (t : Tree ps) where
 
   -- a layout's leaves stand in one piece among all leaves, from its first leaf on
   pub segment : (x : ℕ) → x < length ps → (before : List ℕ) × (after : List ℕ) × (leaves ps 0 ≡ before ++ (leaves ps x ++ after)) × (length before ≡ firstLeaf ps x)
-  segment x h = let p = part-of h (above-root ps t x) in (p .0, p .1, p .2, sym (first-at x (p .0) (p .1) (p .2)))
+  segment x h = let p = part-of h (ancestor-root ps t x) in (p .0, p .1, p .2, sym (first-at x (p .0) (p .1) (p .2)))
 
   -- layout 0 begins with the first leaf
   pub first-root : firstLeaf ps 0 ≡ 0
@@ -177,7 +177,7 @@ module _ (ps : List ℕ) (t : Tree ps) where
 
   -- there are no more leaves than layouts: they are layouts, and none stands twice
   pub leaves-bound : length (leaves ps 0) ≤ length ps
-  leaves-bound = distinct-bound (length ps) (leaves ps 0) (leaves-distinct 0 (t .nonempty)) (mem-all (λ (l : ℕ). l < length ps) (leaves ps 0) (λ l m. leaf-above 0 (t .nonempty) l m .1))
+  leaves-bound = distinct-bound (length ps) (leaves ps 0) (leaves-distinct 0 (t .nonempty)) (mem-all (λ (l : ℕ). l < length ps) (leaves ps 0) (λ l m. leaf-ancestor 0 (t .nonempty) l m .1))
 
   -- the leaves of a layout are among them
   pub last-lt-leaves : (x : ℕ) → x < length ps → lastLeaf ps x < length (leaves ps 0)

@@ -6,8 +6,8 @@ use mathlib.Core.Logic.{_≢_}
 use mathlib.Core.List.{map, List·Memᴰ as Mem}
 use native.Mathlib.Omega.{arith}
 use lib.ListN.{length, getD}
-use Rattle.model.specs.Lists.{numbersFrom, numbers, Pairwise}
-use Rattle.tree.specs.Lists.{Distinct, pairwise-imply, mem-range, range-mem, range-rises}
+use Rattle.model.specs.Lists.{numbersFrom, numbers, AllPairs}
+use Rattle.tree_laws.specs.Lists.{Distinct, pairwise-imply, mem-range, range-mem, range-rises}
 
 -- every number below n is one of them
 pub mem-numbers : (y n : ℕ) → y < n → Mem y (numbers n)
@@ -20,7 +20,7 @@ unfolding numbers
 numbers-mem n m = let r = range-mem 0 n m in omega (arith, r .1)
 
 -- they rise
-pub numbers-rise : (n : ℕ) → Pairwise _<_ (numbers n)
+pub numbers-rise : (n : ℕ) → AllPairs _<_ (numbers n)
 unfolding numbers
 numbers-rise n = range-rises 0 n
 

@@ -10,11 +10,11 @@ use native.Mathlib.Omega.{arith}
 use lib.ListN.{length, getD, length-append}
 use lib.Dec.{leb}
 use borrow.Author.Tests.{leb-true, le-leb}
-use Rattle.model.specs.Tree.{above, depth, leaves, firstLeaf, lastLeaf}
-use Rattle.tree.specs.Lists.{piece-mem, same-test}
-use Rattle.tree.specs.WellFormed.{Tree}
-use Rattle.tree.specs.Chain.{Above, self, above-le, above-depth, above-linear, above-same, above-true, true-above}
-use Rattle.tree.specs.Leaves.{leaves-nonempty, leaf-above, part-of, segment, first-at, last-at, last-is}
+use Rattle.model.specs.Tree.{ancestorOrSelf, depth, leaves, firstLeaf, lastLeaf}
+use Rattle.tree_laws.specs.Lists.{piece-mem, same-test}
+use Rattle.tree_laws.specs.WellFormed.{Tree}
+use Rattle.tree_laws.specs.Chain.{AncestorOrSelf, self, ancestor-le, ancestor-depth, ancestor-linear, ancestor-same, ancestor-true, true-ancestor}
+use Rattle.tree_laws.specs.Leaves.{leaves-nonempty, leaf-ancestor, part-of, segment, first-at, last-at, last-is}
 
 -- leaf number k lies in the span of x
 pub record InSpan (ps : List ℕ) (k x : ℕ) : Type 0 where
@@ -41,30 +41,30 @@ module _ (ps : List ℕ) (t : Tree ps) where
   first-le-last x h = omega (arith, last-is ps t x h, leaves-nonempty ps x)
 
   -- the span of a layout lies in that of each layout above it, as its leaves are a piece of the other's
-  pub nested : {u x : ℕ} → x < length ps → Above ps u x → (firstLeaf ps u ≤ firstLeaf ps x) × (lastLeaf ps x ≤ lastLeaf ps u)
+  pub nested : {u x : ℕ} → x < length ps → AncestorOrSelf ps u x → (firstLeaf ps u ≤ firstLeaf ps x) × (lastLeaf ps x ≤ lastLeaf ps u)
   nested {u} {x} h a =
-      let s = segment ps t u (omega (arith, above-le ps t a)) in
+      let s = segment ps t u (omega (arith, ancestor-le ps t a)) in
       let p = part-of ps t h a in
       let whole : leaves ps 0 ≡ (s .0 ++ p .0) ++ (leaves ps x ++ (p .1 ++ s .1)) = s .2 ∙ ap (λ (l : List ℕ). s .0 ++ (l ++ s .1)) (p .2) ∙ simp append-assoc in
       let first : firstLeaf ps x ≡ length (s .0 ++ p .0) = first-at ps t x (s .0 ++ p .0) (p .1 ++ s .1) whole in
       let last : suc (lastLeaf ps x) ≡ length (s .0 ++ p .0) + length (leaves ps x) = last-at ps t x (s .0 ++ p .0) (p .1 ++ s .1) whole in
       let longer : length (leaves ps u) ≡ length (p .0) + (length (leaves ps x) + length (p .1)) = ap length (p .2) ∙ simp length-append in
       let front : length (s .0 ++ p .0) ≡ length (s .0) + length (p .0) = length-append (s .0) (p .0) in
-      (omega arith, omega (arith, last-is ps t u (omega (arith, above-le ps t a))))
+      (omega arith, omega (arith, last-is ps t u (omega (arith, ancestor-le ps t a))))
 
   -- the leaf at a place of a span is a leaf of the layout
   span-leaf : {k x : ℕ} → x < length ps → InSpan ps k x → Mem (getD (leaves ps 0) k 0) (leaves ps x)
   span-leaf {k} {x} h i = let s = segment ps t x h in rw (s .2) (piece-mem (s .0) (leaves ps x) (s .1) k 0 (omega arith) (omega (arith, last-is ps t x h)))
 
   -- two spans that meet are of layouts above one another, as their depths say: both are above the leaf that they share
-  pub spans-meet : {k u x : ℕ} → u < length ps → x < length ps → InSpan ps k u → InSpan ps k x → depth ps u ≤ depth ps x → Above ps u x
+  pub spans-meet : {k u x : ℕ} → u < length ps → x < length ps → InSpan ps k u → InSpan ps k x → depth ps u ≤ depth ps x → AncestorOrSelf ps u x
   spans-meet {k} {u} {x} h j i i′ d =
       let leaf : ℕ = getD (leaves ps 0) k 0 in
-      above-linear ps t (leaf-above ps t u h leaf (span-leaf h i) .0) (leaf-above ps t x j leaf (span-leaf j i′) .0) d
+      ancestor-linear ps t (leaf-ancestor ps t u h leaf (span-leaf h i) .0) (leaf-ancestor ps t x j leaf (span-leaf j i′) .0) d
 
   -- two layouts at one depth whose spans meet are one
   pub spans-same : {k u x : ℕ} → u < length ps → x < length ps → InSpan ps k u → InSpan ps k x → depth ps u ≡ depth ps x → u ≡ x
-  spans-same h j i i′ d = above-same ps t (spans-meet h j i i′ (omega arith)) self d
+  spans-same h j i i′ d = ancestor-same ps t (spans-meet h j i i′ (omega arith)) self d
 
   -- two layouts at one depth have disjoint spans: otherwise the later of the two first leaves is in both
   pub disjoint : (u x : ℕ) → u < length ps → x < length ps → depth ps u ≡ depth ps x → u ≢ x → (lastLeaf ps u < firstLeaf ps x) ⊎ (lastLeaf ps x < firstLeaf ps u)
@@ -83,16 +83,16 @@ module _ (ps : List ℕ) (t : Tree ps) where
       both-x meet meet′ = record { first = omega arith; last = omega (arith, first-le-last x j) }
 
   -- (A) what is above x has the first leaf of x in its span and is no deeper
-  pub above-span : {u x : ℕ} → x < length ps → Above ps u x → InSpan ps (firstLeaf ps x) u × (depth ps u ≤ depth ps x)
-  above-span {u} {x} h a = (record { first = nested h a .0; last = omega (arith, nested h a .1, first-le-last x h) }, above-depth ps t a)
+  pub ancestor-span : {u x : ℕ} → x < length ps → AncestorOrSelf ps u x → InSpan ps (firstLeaf ps x) u × (depth ps u ≤ depth ps x)
+  ancestor-span {u} {x} h a = (record { first = nested h a .0; last = omega (arith, nested h a .1, first-le-last x h) }, ancestor-depth ps t a)
 
   -- and what has is above x: its span and that of x meet
-  pub span-above : {u x : ℕ} → u < length ps → x < length ps → InSpan ps (firstLeaf ps x) u → depth ps u ≤ depth ps x → Above ps u x
-  span-above {u} {x} h j i d = spans-meet h j i (record { first = omega arith; last = first-le-last x j }) d
+  pub span-ancestor : {u x : ℕ} → u < length ps → x < length ps → InSpan ps (firstLeaf ps x) u → depth ps u ≤ depth ps x → AncestorOrSelf ps u x
+  span-ancestor {u} {x} h j i d = spans-meet h j i (record { first = omega arith; last = first-le-last x j }) d
 
   -- (A) as an equation of tests: u is above x exactly if the first leaf of x lies in the span of u and u is no deeper
   pub ancestor-test : (u x : ℕ) → u < length ps → x < length ps
-      → above ps u x ≡ (leb (firstLeaf ps u) (firstLeaf ps x) && leb (firstLeaf ps x) (lastLeaf ps u) && leb (depth ps u) (depth ps x))
-  ancestor-test u x h j = same-test (above ps u x) (inSpan ps (firstLeaf ps x) u (depth ps u) (depth ps x))
-      (λ e. let s = above-span j (above-true ps t u x e) in true-in-span ps (firstLeaf ps x) u (depth ps u) (depth ps x) (s .0) (s .1))
-      (λ e. let s = in-span-true ps (firstLeaf ps x) u (depth ps u) (depth ps x) e in true-above ps t (span-above h j (s .0) (s .1)))
+      → ancestorOrSelf ps u x ≡ (leb (firstLeaf ps u) (firstLeaf ps x) && leb (firstLeaf ps x) (lastLeaf ps u) && leb (depth ps u) (depth ps x))
+  ancestor-test u x h j = same-test (ancestorOrSelf ps u x) (inSpan ps (firstLeaf ps x) u (depth ps u) (depth ps x))
+      (λ e. let s = ancestor-span j (ancestor-true ps t u x e) in true-in-span ps (firstLeaf ps x) u (depth ps u) (depth ps x) (s .0) (s .1))
+      (λ e. let s = in-span-true ps (firstLeaf ps x) u (depth ps u) (depth ps x) e in true-ancestor ps t (span-ancestor h j (s .0) (s .1)))

@@ -3,8 +3,8 @@
 use borrow.Author.Needs.{needs}
 use mathlib.Core.Path.{sym}
 use lib.ListN.{List·getD-eq-default}
-use Rattle.cells.proofs.cell.Statement.{statement}
-use Rattle.cells.proofs.cell.Tie as tie
+use Rattle.buffers.proofs.cell.Statement.{statement}
+use Rattle.buffers.proofs.cell.Tie as tie
 
 mul-result : tie.Need-mul-result
 mul-result c = search needs

@@ -3,8 +3,8 @@
 use borrow.Author.Needs.{needs}
 use mathlib.Core.Path.{sym}
 use lib.ListN.{List·getD-eq-default}
-use Rattle.cells.proofs.mark.Statement.{statement}
-use Rattle.cells.proofs.mark.Tie as tie
+use Rattle.buffers.proofs.mark.Statement.{statement}
+use Rattle.buffers.proofs.mark.Tie as tie
 
 shared-slice-read-result : tie.Need-shared-slice-read-result
 shared-slice-read-result c = search needs

@@ -9,11 +9,11 @@ use native.Mathlib.Omega.{arith}
 use lib.ListN.{length, getD}
 use lib.Dec.{eqb}
 use borrow.Author.Tests.{eqb-true, eq-eqb}
-use Rattle.model.specs.Lists.{numbers, Pairwise}
+use Rattle.model.specs.Lists.{numbers, AllPairs}
 use Rattle.model.specs.Tree.{FFFF, depth, children}
-use Rattle.tree.specs.Lists.{getD-inside, all-mem, mem-range, range-mem, range-rises, select-mem, mem-select, select-pairwise, pairwise-right, pairwise-across}
-use Rattle.tree.specs.WellFormed.{Tree}
-use Rattle.tree.specs.Chain.{Above, self, up, above-trans, above-same, depth-child}
+use Rattle.tree_laws.specs.Lists.{getD-inside, all-mem, mem-range, range-mem, range-rises, select-mem, mem-select, select-pairwise, pairwise-right, pairwise-across}
+use Rattle.tree_laws.specs.WellFormed.{Tree}
+use Rattle.tree_laws.specs.Chain.{AncestorOrSelf, self, up, ancestor-trans, ancestor-same, depth-child}
 
 module _ (ps : List ℕ) (t : Tree ps) where
   -- a child of x is a layout after the first whose parent is x
@@ -46,12 +46,12 @@ module _ (ps : List ℕ) (t : Tree ps) where
   -- ---- their order
 
   -- children stand in rising order, as the numbers do that they are selected from
-  pub children-rise : (x : ℕ) → Pairwise _<_ (children ps x)
+  pub children-rise : (x : ℕ) → AllPairs _<_ (children ps x)
   unfolding children numbers
   children-rise x = select-pairwise (λ (y : ℕ). eqb (getD ps y FFFF) x) _<_ (numbers (length ps)) (range-rises 0 (length ps))
 
   module _ (x : ℕ) (done : List ℕ) (c : ℕ) (rest : List ℕ) (e : children ps x ≡ done ++ c ∷ rest) where
-    rises : Pairwise _<_ (done ++ c ∷ rest)
+    rises : AllPairs _<_ (done ++ c ∷ rest)
     rises = rw e at (children-rise x)
 
     -- the children in front of c are smaller, and those behind it greater
@@ -92,21 +92,21 @@ module _ (ps : List ℕ) (t : Tree ps) where
   -- ---- what lies below them
 
   -- what is at or below x is x or at or below a child of it: the last step down from x leads to a child
-  pub above-child : {x y : ℕ} → y < length ps → Above ps x y → (x ≡ y) ⊎ ((c : ℕ) × (Mem c (children ps x) × Above ps c y))
-  above-child h self = inl refl
-  above-child {x} h (up {x = y} k a) = ⊎-elim
+  pub ancestor-child : {x y : ℕ} → y < length ps → AncestorOrSelf ps x y → (x ≡ y) ⊎ ((c : ℕ) × (Mem c (children ps x) × AncestorOrSelf ps c y))
+  ancestor-child h self = inl refl
+  ancestor-child {x} h (up {x = y} k a) = ⊎-elim
       (λ (e : x ≡ getD ps y 0). inr (y, (parent-child h (sym e), self)))
-      (λ (r : (c : ℕ) × (Mem c (children ps x) × Above ps c (getD ps y 0))). inr (r .0, (r .1 .0, up k (r .1 .1))))
-      (above-child (omega (arith, t .smaller y k)) a)
+      (λ (r : (c : ℕ) × (Mem c (children ps x) × AncestorOrSelf ps c (getD ps y 0))). inr (r .0, (r .1 .0, up k (r .1 .1))))
+      (ancestor-child (omega (arith, t .smaller y k)) a)
 
   -- a parent is above its child
-  pub parent-above : {x c : ℕ} → x < length ps → Mem c (children ps x) → Above ps x c
-  parent-above {x} {c} h m = let k = child-parent h m in up {u = x} {x = c} (k .2) (rw (k .1) self)
+  pub parent-ancestor : {x c : ℕ} → x < length ps → Mem c (children ps x) → AncestorOrSelf ps x c
+  parent-ancestor {x} {c} h m = let k = child-parent h m in up {u = x} {x = c} (k .2) (rw (k .1) self)
 
   -- and above all that the child is above
-  pub child-above : {x c y : ℕ} → x < length ps → Mem c (children ps x) → Above ps c y → Above ps x y
-  child-above h m a = above-trans ps t (parent-above h m) a
+  pub child-ancestor : {x c y : ℕ} → x < length ps → Mem c (children ps x) → AncestorOrSelf ps c y → AncestorOrSelf ps x y
+  child-ancestor h m a = ancestor-trans ps t (parent-ancestor h m) a
 
   -- two children above one layout are one: they have the same depth
-  pub child-unique : {x c d y : ℕ} → x < length ps → Mem c (children ps x) → Mem d (children ps x) → Above ps c y → Above ps d y → c ≡ d
-  child-unique h m n a b = above-same ps t a b (child-depth h m ∙ sym (child-depth h n))
+  pub child-unique : {x c d y : ℕ} → x < length ps → Mem c (children ps x) → Mem d (children ps x) → AncestorOrSelf ps c y → AncestorOrSelf ps d y → c ≡ d
+  child-unique h m n a b = ancestor-same ps t a b (child-depth h m ∙ sym (child-depth h n))

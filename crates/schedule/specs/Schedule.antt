@@ -1,0 +1,79 @@
+-- A schedule: all that the sweep knows of a table, by place in the running order. Places, slots and spans of slots; no tree, layout or job.
+use Prim.Native.Nat.{ℕ, _^_, _<_, _≤_}
+use mathlib.Core.Path.{_≡_}
+use mathlib.Core.Bool.{Bool, cond, _&&_}
+use mathlib.Core.List.{List}
+use lib.ListN.{length, getD, take}
+use lib.Dec.{eqb, leb, ltb}
+use Rattle.model.specs.Lists.{numbers, elem, total}
+use Rattle.model.specs.Tree.{FFFF}
+use Rattle.model.specs.Greedy.{Pass, pair, single, greedy}
+use Rattle.model.specs.Visits.{levels, visits}
+
+pub record Schedule : Type 0 where
+  -- the slot at each place
+  pub slots : List ℕ
+  -- the span of slots that a place asks for: those from `froms` up to `tos`, the end itself excluded; a place whose span ends at 0 asks nobody
+  pub froms : List ℕ
+  pub tos : List ℕ
+  -- how many of `reached` are reached at the turn of each place
+  pub dues : List ℕ
+  -- the places that can be found, in the order in which the sweep reaches them
+  pub reached : List ℕ
+
+module _ (s : Schedule) where
+  -- how many places there are
+  abbrev pub places : ℕ
+  places = length (s .slots)
+
+  abbrev pub slotAt : ℕ → ℕ
+  slotAt p = getD (s .slots) p 0
+
+  abbrev pub fromAt : ℕ → ℕ
+  fromAt p = getD (s .froms) p 0
+
+  abbrev pub toAt : ℕ → ℕ
+  toAt p = getD (s .tos) p 0
+
+  abbrev pub dueAt : ℕ → ℕ
+  dueAt p = getD (s .dues) p 0
+
+  -- the relation that the schedule defines: p asks, q is reached at the turn of p, and the slot of q lies in the span that p asks for
+  unfoldable pub fits : ℕ → ℕ → Bool
+  fits p q =
+      ltb 0 (toAt p) && (elem q (take (dueAt p) (s .reached)) && (leb (fromAt p) (slotAt q) && ltb (slotAt q) (toAt p)))
+
+  -- the greedy rule over that relation, by place
+  unfoldable pub passesByPlace : List Pass
+  passesByPlace = greedy fits (numbers places)
+
+  -- the visits of the lookup at a place; a place that asks nobody makes none
+  unfoldable pub visitsAt : ℕ → ℕ
+  visitsAt p = cond (eqb (toAt p) 0) 0 (visits (levels places) (fromAt p) (toAt p))
+
+  -- the place that is free at its turn in a pass makes the lookup
+  unfoldable pub visitsOf : Pass → ℕ
+  visitsOf (pair p q) = visitsAt p
+  visitsOf (single p) = visitsAt p
+
+  -- summed over the passes
+  unfoldable pub totalVisits : ℕ
+  totalVisits = total visitsOf passesByPlace
+
+  -- what the sweep relies on
+  pub record Sound : Type 0 where
+    pub froms-length : length (s .froms) ≡ places
+    pub tos-length : length (s .tos) ≡ places
+    pub dues-length : length (s .dues) ≡ places
+    pub slot-inside : (p : ℕ) → p < places → slotAt p < 2 ^ levels places
+    pub slot-once : (p q : ℕ) → p < places → q < places → slotAt p ≡ slotAt q → p ≡ q
+    pub to-inside : (p : ℕ) → p < places → toAt p ≤ 2 ^ levels places
+    pub asks-nobody : (p : ℕ) → p < places → toAt p ≡ 0 → fromAt p ≡ FFFF
+    pub due-inside : (p : ℕ) → p < places → dueAt p ≤ length (s .reached)
+    pub due-rises : (p q : ℕ) → p ≤ q → q < places → dueAt p ≤ dueAt q
+    pub reached-length : length (s .reached) ≤ places
+    pub reached-place : (r : ℕ) → r < length (s .reached) → getD (s .reached) r 0 < places
+    pub reached-once : (r t : ℕ) → r < length (s .reached) → t < length (s .reached) → getD (s .reached) r 0 ≡ getD (s .reached) t 0 → r ≡ t
+    -- a place that can be found asks itself, and is reached at its own turn at the latest
+    pub reached-asks : (r : ℕ) → r < length (s .reached) → 0 < toAt (getD (s .reached) r 0)
+    pub reached-by : (r : ℕ) → r < length (s .reached) → r < dueAt (getD (s .reached) r 0)
