@@ -1,7 +1,7 @@
 -- The jobs in no pair of a rival plan, and its passes (document 01, "Rival plans and the cut"). Each pair takes two jobs that no other pair has, so the singles are what is
 -- left of M after two for each pair.
 -- Assumes nothing.
-use Prim.Native.Nat.{ℕ, suc, _+_, _-_, _*_, _≤_, _<_}
+use Prim.Native.Nat.{ℕ, suc, _+_, _*_, _≤_, _<_}
 use mathlib.Core.Path.{_≡_, refl, sym, ap, _∙_}
 use mathlib.Core.Logic.{_≢_}
 use mathlib.Core.Bool.{Bool, true, false, cond, not, _||_, or-false}
@@ -91,7 +91,7 @@ singles-and-pairs tb ps rival = counted ps (rival .keep) (rival .once)
         )
 
 -- document 01: the passes of a plan are M less its pairs
-pub rival-passes : (tb : Table) (ps : List Pair) → Rival tb ps → passesOf tb ps ≡ jobs tb - length ps
+pub rival-passes : (tb : Table) (ps : List Pair) → Rival tb ps → passesOf tb ps + length ps ≡ jobs tb
 unfolding passesOf
 rival-passes tb ps rival = omega (arith, singles-and-pairs tb ps rival)
 

@@ -13,7 +13,7 @@ use Rattle.model.specs.Greedy.{Pass, pair, single, without, turn, turns,
 use Rattle.model.specs.Visits.{levelsFrom, levels, cellVisits, visits, askedFrom, askedTo, lookupVisits, passVisits, cellCount}
 use Rattle.model.specs.Planning.{workCells, lentVerdict, jobsVerdict, planVerdict, partnerIn, pairCount, singleCount, partners, printed, layouts, pairs, singles}
 use Rattle.model.specs.Table.{isDigit, digitValue, numberAfter, lead, lines, frameOfKind, frameOf, isEnd, outOfOrder, contentVerdict, frameVerdict, extended, unlessRefused, readFrame, readLines, readTable}
-use Rattle.model.specs.Output.{digit, hex, line, passLine, totalsLine, planBytes, refusalBytes, readingBytes, runBytes}
+use Rattle.model.specs.Output.{digit, hex, pairLine, singleLine, totalsLine, passLine, planBytes, refusalBytes, readingBytes, runBytes}
 
 -- a plan's passes, `I J L` or `I`, its partners and layouts by job, and its totals; or a refusal's number and place
 data Outcome : Type 0 where
@@ -28,19 +28,19 @@ outcome : Table → Verdict → Outcome
 outcome tb accepted = plans (map (passNumbers tb) (passes tb)) (partners tb) (layouts tb) (pairs tb) (singles tb) (cellCount tb)
 outcome tb (refused number place) = turnsAway number place
 
--- a job as top-bottom
+-- a job as top to bottom
 record Job : Type 0 where
   top : ℕ
   bottom : ℕ
   mark : ℕ
 
-infix 70 _-_
-_-_ : ℕ → ℕ → Job
-t - b = record { top = t; bottom = b; mark = 0 }
+infix 70 _to_
+_to_ : ℕ → ℕ → Job
+t to b = record { top = t; bottom = b; mark = 0 }
 
-infix 70 _solo_
-_solo_ : ℕ → ℕ → Job
-t solo b = record { top = t; bottom = b; mark = 1 }
+infix 70 _soloTo_
+_soloTo_ : ℕ → ℕ → Job
+t soloTo b = record { top = t; bottom = b; mark = 1 }
 
 -- a parent list, jobs, and what is expected of them
 record Example : Type 0 where
@@ -69,34 +69,34 @@ bakehouse : Example
 bakehouse =
     record {
       parents = F ∷ 0 ∷ 0 ∷ 1 ∷ [];
-      jobs = 0 - 3 ∷ 1 - 3 ∷ 2 - 2 ∷ 0 - 2 ∷ 3 - 3 ∷ [];
+      jobs = 0 to 3 ∷ 1 to 3 ∷ 2 to 2 ∷ 0 to 2 ∷ 3 to 3 ∷ [];
       expected = plans ((4 ∷ 1 ∷ 3 ∷ []) ∷ (2 ∷ 3 ∷ 2 ∷ []) ∷ (0 ∷ []) ∷ []) (F ∷ 4 ∷ 3 ∷ 2 ∷ 1 ∷ []) (F ∷ 3 ∷ 2 ∷ 2 ∷ 3 ∷ []) 2 1 0x19;
     }
 
 examples : List Example
 examples =
     record { parents = F ∷ []; jobs = []; expected = plans [] [] [] 0 0 0 }
-    ∷ record { parents = F ∷ []; jobs = 0 - 0 ∷ []; expected = plans ((0 ∷ []) ∷ []) (F ∷ []) (F ∷ []) 0 1 1 }
-    ∷ record { parents = F ∷ []; jobs = 0 - 0 ∷ 0 - 0 ∷ []; expected = plans ((0 ∷ 1 ∷ 0 ∷ []) ∷ []) (1 ∷ 0 ∷ []) (0 ∷ 0 ∷ []) 1 0 1 }
-    ∷ record { parents = F ∷ []; jobs = 0 - 0 ∷ 0 solo 0 ∷ []; expected = plans ((0 ∷ []) ∷ (1 ∷ []) ∷ []) (F ∷ F ∷ []) (F ∷ F ∷ []) 0 2 1 }
-    ∷ record { parents = F ∷ 0 ∷ []; jobs = 0 - 0 ∷ 1 - 1 ∷ []; expected = plans ((1 ∷ []) ∷ (0 ∷ []) ∷ []) (F ∷ F ∷ []) (F ∷ F ∷ []) 0 2 2 }
+    ∷ record { parents = F ∷ []; jobs = 0 to 0 ∷ []; expected = plans ((0 ∷ []) ∷ []) (F ∷ []) (F ∷ []) 0 1 1 }
+    ∷ record { parents = F ∷ []; jobs = 0 to 0 ∷ 0 to 0 ∷ []; expected = plans ((0 ∷ 1 ∷ 0 ∷ []) ∷ []) (1 ∷ 0 ∷ []) (0 ∷ 0 ∷ []) 1 0 1 }
+    ∷ record { parents = F ∷ []; jobs = 0 to 0 ∷ 0 soloTo 0 ∷ []; expected = plans ((0 ∷ []) ∷ (1 ∷ []) ∷ []) (F ∷ F ∷ []) (F ∷ F ∷ []) 0 2 1 }
+    ∷ record { parents = F ∷ 0 ∷ []; jobs = 0 to 0 ∷ 1 to 1 ∷ []; expected = plans ((1 ∷ []) ∷ (0 ∷ []) ∷ []) (F ∷ F ∷ []) (F ∷ F ∷ []) 0 2 2 }
     ∷ record {
       parents = F ∷ 0 ∷ 0 ∷ [];
-      jobs = 0 - 1 ∷ 0 - 2 ∷ 1 - 1 ∷ 2 - 2 ∷ [];
+      jobs = 0 to 1 ∷ 0 to 2 ∷ 1 to 1 ∷ 2 to 2 ∷ [];
       expected = plans ((2 ∷ 0 ∷ 1 ∷ []) ∷ (3 ∷ 1 ∷ 2 ∷ []) ∷ []) (2 ∷ 3 ∷ 0 ∷ 1 ∷ []) (1 ∷ 2 ∷ 1 ∷ 2 ∷ []) 2 0 6;
     }
     ∷ record {
       parents = F ∷ 0 ∷ [];
-      jobs = 1 - 1 ∷ 1 - 1 ∷ 0 - 1 ∷ 0 - 0 ∷ [];
+      jobs = 1 to 1 ∷ 1 to 1 ∷ 0 to 1 ∷ 0 to 0 ∷ [];
       expected = plans ((0 ∷ 1 ∷ 1 ∷ []) ∷ (2 ∷ 3 ∷ 0 ∷ []) ∷ []) (1 ∷ 0 ∷ 3 ∷ 2 ∷ []) (1 ∷ 1 ∷ 0 ∷ 0 ∷ []) 2 0 2;
     }
     ∷ bakehouse
     ∷ record { parents = F ∷ 1 ∷ []; jobs = []; expected = turnsAway 4 1 }
-    ∷ record { parents = F ∷ 0 ∷ []; jobs = 1 - 0 ∷ []; expected = turnsAway 6 0 }
+    ∷ record { parents = F ∷ 0 ∷ []; jobs = 1 to 0 ∷ []; expected = turnsAway 6 0 }
     ∷ []
 
 examples-hold : map planned examples ≡ map (λ (e : Example). e .expected) examples
-unfolding numbersFrom numbers elem indexOf lastD anyOf allOf select countWhere find total insertBy sortBy rightParent layoutsFrom treeVerdict ascend ancestors ancestorOrSelf depth children orSelf leavesWithin leaves firstLeaf lastLeaf solo upTo pathFrom path shares deepestShared topDepth bottomLeaf jobVerdict earlier runningOrder place leftward slotOrder slot without turn turns greedy compatible passes levelsFrom levels cellVisits visits askedFrom askedTo lookupVisits passVisits cellCount lentVerdict jobsVerdict planVerdict partnerIn pairCount singleCount partners printed layouts pairs singles passNumbers outcome _-_ _solo_ tableOf planned F bakehouse examples flatMap headD
+unfolding numbersFrom numbers elem indexOf lastD anyOf allOf select countWhere find total insertBy sortBy rightParent layoutsFrom treeVerdict ascend ancestors ancestorOrSelf depth children orSelf leavesWithin leaves firstLeaf lastLeaf solo upTo pathFrom path shares deepestShared topDepth bottomLeaf jobVerdict earlier runningOrder place leftward slotOrder slot without turn turns greedy compatible passes levelsFrom levels cellVisits visits askedFrom askedTo lookupVisits passVisits cellCount lentVerdict jobsVerdict planVerdict partnerIn pairCount singleCount partners printed layouts pairs singles passNumbers outcome _to_ _soloTo_ tableOf planned F bakehouse examples flatMap headD
 examples-hold = refl
 
 -- ---- from bytes to bytes
@@ -145,10 +145,10 @@ printings =
     ∷ []
 
 printings-hold : map (λ (e : Printing). runBytes (flatMap spelled (e .table))) printings ≡ map (λ (e : Printing). flatMap spelled (e .printed)) printings
-unfolding numbersFrom numbers elem indexOf lastD anyOf allOf select countWhere find total insertBy sortBy rightParent layoutsFrom treeVerdict ascend ancestors ancestorOrSelf depth children orSelf leavesWithin leaves firstLeaf lastLeaf solo upTo pathFrom path shares deepestShared topDepth bottomLeaf jobVerdict earlier runningOrder place leftward slotOrder slot without turn turns greedy compatible passes levelsFrom levels cellVisits visits askedFrom askedTo lookupVisits passVisits cellCount lentVerdict jobsVerdict planVerdict partnerIn pairCount singleCount partners printed layouts pairs singles passNumbers outcome _-_ _solo_ tableOf planned F bakehouse examples flatMap headD isDigit digitValue numberAfter lead lines frameOfKind frameOf isEnd outOfOrder contentVerdict frameVerdict extended unlessRefused readFrame readLines readTable digit hex line passLine totalsLine planBytes refusalBytes readingBytes runBytes spelled printings
+unfolding numbersFrom numbers elem indexOf lastD anyOf allOf select countWhere find total insertBy sortBy rightParent layoutsFrom treeVerdict ascend ancestors ancestorOrSelf depth children orSelf leavesWithin leaves firstLeaf lastLeaf solo upTo pathFrom path shares deepestShared topDepth bottomLeaf jobVerdict earlier runningOrder place leftward slotOrder slot without turn turns greedy compatible passes levelsFrom levels cellVisits visits askedFrom askedTo lookupVisits passVisits cellCount lentVerdict jobsVerdict planVerdict partnerIn pairCount singleCount partners printed layouts pairs singles passNumbers outcome _to_ _soloTo_ tableOf planned F bakehouse examples flatMap headD isDigit digitValue numberAfter lead lines frameOfKind frameOf isEnd outOfOrder contentVerdict frameVerdict extended unlessRefused readFrame readLines readTable digit hex pairLine singleLine totalsLine passLine planBytes refusalBytes readingBytes runBytes spelled printings
 printings-hold = refl
 
 -- the running order of the bakehouse, and the cells that the lookups of jobs 4, 2 and 0 visit
 bakehouse-sweep : (runningOrder (tableOf bakehouse) ≡ 4 ∷ 1 ∷ 2 ∷ 0 ∷ 3 ∷ []) × (map (lookupVisits (tableOf bakehouse)) (4 ∷ 2 ∷ 0 ∷ []) ≡ 7 ∷ 11 ∷ 7 ∷ [])
-unfolding numbersFrom numbers elem indexOf lastD select countWhere insertBy sortBy ascend ancestors depth children orSelf leavesWithin leaves firstLeaf lastLeaf solo topDepth bottomLeaf earlier runningOrder place leftward slotOrder slot levelsFrom levels cellVisits visits askedFrom askedTo lookupVisits _-_ tableOf F bakehouse flatMap headD
+unfolding numbersFrom numbers elem indexOf lastD select countWhere insertBy sortBy ascend ancestors depth children orSelf leavesWithin leaves firstLeaf lastLeaf solo topDepth bottomLeaf earlier runningOrder place leftward slotOrder slot levelsFrom levels cellVisits visits askedFrom askedTo lookupVisits _to_ tableOf F bakehouse flatMap headD
 bakehouse-sweep = (refl, refl)

@@ -4,7 +4,7 @@ use Prim.Native.Nat.{ℕ}
 use mathlib.Core.Path.{_≡_}
 use mathlib.Core.List.{List, [], _∷_, _++_}
 use lib.ListN.{length, drop, replicate}
-use Rattle.model.specs.Verdict.{Verdict, accepted, answer, lent}
+use Rattle.model.specs.Verdict.{Verdict, answer, lent}
 use Rattle.model.specs.Tree.{FFFF, depth, firstLeaf, lastLeaf, settleVerdict, settledCells}
 use Rattle.model.specs.Jobs.{Table, jobs, tableOf}
 use Rattle.model.specs.Visits.{cellCount}
@@ -16,6 +16,8 @@ use Rattle.model.specs.Answers.{settledAnswer, tableAnswer, plannedAnswe
 use Rattle.model.specs.declared.Settled.{Settled}
 use Rattle.model.specs.declared.TableRead.{TableRead}
 use Rattle.model.specs.declared.Planned.{Planned}
+use Rattle.model.specs.declared.Planned.the-variants as planned
+use Rattle.model.specs.declared.Totals.{Totals}
 
 -- *Settle layouts* under its verdict v: depth, first leaf and last leaf of each layout
 pub record SettledAs (v : Verdict) (parents depths firsts lasts : List ℕ) (r : Settled) (depths′ firsts′ lasts′ : List ℕ) : Type 0 where
@@ -40,13 +42,13 @@ abbrev pub ReadOutcome : List ℕ → List ℕ → List ℕ → List ℕ → Lis
 ReadOutcome bytes parents tops bottoms marks =
     ReadAs (buffersVerdict (length parents) (length tops) (length bottoms) (length marks)) (readTable bytes) parents tops bottoms marks
 
--- *Plan* under its verdict v: partners, layouts, totals and work cells, and, if it accepts, that no rival plan beats what was handed back
+-- *Plan* under its verdict v: partners, layouts, totals and work cells, and, where totals are given back, that no rival plan beats what was handed back
 pub record PlannedAs (v : Verdict) (tb : Table) (partners layouts work : List ℕ) (r : Planned) (partners′ layouts′ work′ : List ℕ) : Type 0 where
   pub answered : plannedAnswer r ≡ answer v (Planning.pairs tb ∷ Planning.singles tb ∷ cellCount tb ∷ [])
   pub partners-hold : partners′ ≡ lent v partners (Planning.partners tb ++ drop (jobs tb) partners)
   pub layouts-hold : layouts′ ≡ lent v layouts (Planning.layouts tb ++ drop (jobs tb) layouts)
   pub work-holds : work′ ≡ lent v work (replicate Planning.workCells 0 ++ drop Planning.workCells work)
-  pub foremost : v ≡ accepted → MaximumAtEveryCut tb partners′ (Planning.pairs tb) (Planning.singles tb)
+  pub maximum : (t : Totals) → r ≡ planned.Done t → MaximumAtEveryCut tb partners′ (t .pairs) (t .singles)
 
 abbrev pub PlanOutcome : List ℕ → List ℕ → List ℕ → List ℕ → List ℕ → List ℕ → List ℕ → Planned → List ℕ → List ℕ → List ℕ → Type 0
 PlanOutcome parents tops bottoms marks partners layouts work =

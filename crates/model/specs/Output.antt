@@ -5,7 +5,7 @@ use mathlib.Core.Bool.{cond}
 use mathlib.Core.List.{List, [], _∷_, _++_, flatMap}
 use lib.ListN.{length}
 use lib.Dec.{ltb}
-use Rattle.model.specs.Verdict.{Verdict, refuseIf, lent, padded}
+use Rattle.model.specs.Verdict.{Verdict, accepted, refused, refuseIf, lent, padded}
 use Rattle.model.specs.Jobs.{Table}
 use Rattle.model.specs.Greedy.{Pass, pair, single, passes}
 use Rattle.model.specs.Visits.{cellCount}
@@ -24,18 +24,26 @@ hex (suc k) n = hex k (n / 16) ++ digit (n % 16) ∷ []
 abbrev pub line : List ℕ → List ℕ
 line digits = digits ++ 10 ∷ []
 
--- 11 I J L, or 12 I
-unfoldable pub passLine : Table → Pass → List ℕ
-passLine tb (pair i j) = line (hex 2 0x11 ++ (hex 4 i ++ (hex 4 j ++ hex 4 (printed tb i))))
-passLine tb (single i) = line (hex 2 0x12 ++ hex 4 i)
+-- 11 I J L
+unfoldable pub pairLine : ℕ → ℕ → ℕ → List ℕ
+pairLine i j layout = line (hex 2 0x11 ++ (hex 4 i ++ (hex 4 j ++ hex 4 layout)))
+
+-- 12 I
+unfoldable pub singleLine : ℕ → List ℕ
+singleLine i = line (hex 2 0x12 ++ hex 4 i)
 
 -- 1F: pairs, singles, cell count
-unfoldable pub totalsLine : Table → List ℕ
-totalsLine tb = line (hex 2 0x1F ++ (hex 4 (pairs tb) ++ (hex 4 (singles tb) ++ hex 8 (cellCount tb))))
+unfoldable pub totalsLine : ℕ → ℕ → ℕ → List ℕ
+totalsLine pairs singles visits = line (hex 2 0x1F ++ (hex 4 pairs ++ (hex 4 singles ++ hex 8 visits)))
+
+-- the line of a pass
+unfoldable pub passLine : Table → Pass → List ℕ
+passLine tb (pair i j) = pairLine i j (printed tb i)
+passLine tb (single i) = singleLine i
 
 -- one line a pass, ordered by the earlier place in it, and the totals
 unfoldable pub planBytes : Table → List ℕ
-planBytes tb = flatMap (passLine tb) (passes tb) ++ totalsLine tb
+planBytes tb = flatMap (passLine tb) (passes tb) ++ totalsLine (pairs tb) (singles tb) (cellCount tb)
 
 -- 1E, the number in two digits, the place in four
 unfoldable pub refusalBytes : ℕ → ℕ → List ℕ
@@ -58,9 +66,13 @@ outputBytes = 32768
 unfoldable pub outputVerdict : ℕ → Verdict
 outputVerdict n = refuseIf (ltb n outputBytes) 8 0
 
--- the length that the whole run answers
+abbrev pub lengthUnder : Verdict → ℕ → ℕ
+lengthUnder accepted n = n
+lengthUnder (refused number place) n = 0
+
+-- the length that the whole run answers: 0 after refusal 8
 unfoldable pub runLength : List ℕ → List ℕ → ℕ
-runLength bytes output = cond (ltb (length output) outputBytes) 0 (length (runBytes bytes))
+runLength bytes output = lengthUnder (outputVerdict (length output)) (length (runBytes bytes))
 
 -- the output afterwards: nothing changed after refusal 8, else bytes past the length are 0
 unfoldable pub runOutput : List ℕ → List ℕ → List ℕ

@@ -1,6 +1,7 @@
--- Rival plans and the cut (document 01). A plan is here a set of pairs of job numbers: a matching.
+-- Rival plans and the cut (document 01). A plan is here a set of pairs of job numbers: a matching of the jobs in the graph of who shares with whom. A rival
+-- plan is any matching, a cut the end of a prefix of the running order.
 -- Assumes nothing.
-use Prim.Native.Nat.{ℕ, _+_, _-_, _*_, _<_, _≤_}
+use Prim.Native.Nat.{ℕ, _+_, _*_, _<_, _≤_}
 use mathlib.Core.Path.{_≡_}
 use mathlib.Core.Logic.{_≢_}
 use mathlib.Core.Bool.{Bool, not, _&&_, _||_}
@@ -65,12 +66,17 @@ passesOf tb ps = length ps + singlesOf tb ps
 
 -- a plan that no rival beats at any cut: it stands in the partner buffer, and `pairs` and `singles` are given back with it
 pub record MaximumAtEveryCut (tb : Table) (partners : List ℕ) (pairs singles : ℕ) : Type 0 where
+  -- cell J holds I where cell I holds J, no job is its own partner, and our pairs keep the rules
   pub apart : (i : ℕ) → i < jobs tb → getD partners i FFFF ≢ i
   pub back : (i j : ℕ) → i < jobs tb → j < jobs tb → getD partners i FFFF ≡ j → getD partners j FFFF ≡ i
   pub keeps-rules : Rival tb (pairsOf (jobs tb) partners)
+  -- at every cut our pairs in front of it are at least as many; with all jobs in front they are the pairs given back
   pub every-cut : (rival : List Pair) → Rival tb rival → (m : ℕ) → m ≤ jobs tb → pairsInFront tb m rival ≤ pairsInFront tb m (pairsOf (jobs tb) partners)
   pub all-in-front : pairsInFront tb (jobs tb) (pairsOf (jobs tb) partners) ≡ pairs
-  pub singles-are : singles ≡ jobs tb - 2 * pairs
+  -- singles are the jobs in no pair: M less two for each pair
   pub singles-alone : singles ≡ singlesOf tb (pairsOf (jobs tb) partners)
-  pub passes-are : (ps : List Pair) → Rival tb ps → passesOf tb ps ≡ jobs tb - length ps
+  pub singles-are : singles + 2 * pairs ≡ jobs tb
+  -- the passes of any plan are M less its pairs; ours are the pairs and singles given back, and no rival takes fewer
+  pub passes-are : (rival : List Pair) → Rival tb rival → passesOf tb rival + length rival ≡ jobs tb
   pub our-passes : passesOf tb (pairsOf (jobs tb) partners) ≡ pairs + singles
+  pub fewest : (rival : List Pair) → Rival tb rival → pairs + singles ≤ passesOf tb rival

@@ -15,7 +15,7 @@ use Rattle.model.specs.declared.Planned.{Planned}
 use Rattle.model.specs.declared.Planned.the-variants as planned
 use Rattle.model.specs.declared.Refusal.{Refusal}
 use Rattle.model.specs.declared.Totals.{Totals}
-use Rattle.matching.specs.MaximumAtEveryCut.{foremost}
+use Rattle.matching.specs.MaximumAtEveryCut.{our-plan-maximum}
 use Rattle.settle.specs.Spanned.{Spanned}
 use Rattle.orders.specs.Accepted.{Accepted, Lent, accepted-job}
 use Rattle.planner.specs.Checks.{checkVerdict}
@@ -32,7 +32,7 @@ module _ (tb : Table) (partners layouts work : List ℕ) (r : Planned) where
         partners-hold = rw e refl;
         layouts-hold = rw e refl;
         work-holds = rw e refl;
-        foremost = λ ok. let apart : _≡_ {A = ℕ} 0 1 = cc in absurd (omega arith);
+        maximum = λ t done. let apart : _≡_ {A = ℕ} 0 1 = cc in absurd (omega arith);
       }
 
 -- the job check refuses
@@ -77,5 +77,5 @@ module _ (ps ts bs ms depths firsts lasts partners layouts work : List ℕ) (len
         partners-hold = rw (accepts, f .made .partners-are) refl;
         layouts-hold = rw (accepts, f .made .layouts-are) refl;
         work-holds = rw (accepts, f .work-is) refl;
-        foremost = λ ok. rw (f .made .partners-are) (foremost tb (s .tree) (right .downward) few (drop (length ts) partners));
+        maximum = λ u done. let same : u ≡ t = cc in rw (same, f .made .partners-are, f .made .pairs-are, f .made .singles-are) (our-plan-maximum tb (s .tree) (right .downward) few (drop (length ts) partners));
       }
