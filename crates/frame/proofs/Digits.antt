@@ -1,19 +1,27 @@
 -- Laws of digits in the shapes that the code asks: one byte, the four digits of a field, the two of a kind.
 -- Assumes nothing.
-use Prim.Native.Nat.{ℕ, zero, suc, _+_, _-_, _*_, _<_, _≤_}
+use Prim.Native.Nat.{ℕ, _+_, _-_, _*_, _<_, _≤_}
 use mathlib.Core.Path.{_≡_, refl, sym, _∙_}
+use mathlib.Core.Logic.{_⊎_, inl, inr, ⊎-elim, _≢_}
 use mathlib.Core.Bool.{Bool, true, false, cond, _&&_, true≢false, and-true, and-false, or-false}
 use mathlib.Core.List.{List, [], _∷_}
 use native.Mathlib.Omega.{arith}
 use native.Mathlib.Nat.{add-zero}
-use lib.ListN.{length, getD, take, drop, length-drop}
-use lib.Seq.{getD-drop}
+use lib.ListN.{length, getD, set, take, drop, replicate, length-drop, length-set, length-replicate, getD-replicate}
+use lib.Seq.{getD-drop, getD-set-same, getD-set-other}
 use lib.Dec.{eqb, ltb, leb}
-use borrow.Author.Tests.{ne-eqb, eqb-true, eq-eqb, leb-true, leb-false, le-leb, lt-leb, lt-ltb, le-ltb}
+use borrow.Author.Tests.{ne-eqb, eqb-true, eqb-false, eq-eqb, ltb-true, leb-true, leb-false, le-leb, lt-leb, lt-ltb, le-ltb}
 use Rattle.model.specs.Lists.{allOf}
 use Rattle.model.specs.Table.{isDigit, digitValue, numberAfter, kindOf}
-use Rattle.frame.specs.Fields.{digitRead, FieldRead, KindRead}
+use Rattle.frame.specs.Fields.{digitRead, DigitByte, DigitValues, FieldRead, KindRead}
+use Rattle.tree_laws.specs.Lists.{answers}
 use Rattle.frame.specs.Lines.{both-true}
+
+-- two tests that imply each other
+same-test : (x y : Bool) → (x ≡ true → y ≡ true) → (y ≡ true → x ≡ true) → x ≡ y
+same-test true y f g = sym (f refl)
+same-test false true f g = g refl
+same-test false false f g = refl
 
 -- ---- one byte
 
@@ -57,31 +65,85 @@ below-16 b d = go (digit b d)
     go (low from to v) = omega arith
     go (high from to v) = omega arith
 
--- P, and b is none of the n bytes from `from` on
-abbrev Without : Type 0 → ℕ → ℕ → ℕ → Type 0
-Without P b from zero = P
-Without P b from (suc n) = Without P b from n × (b ≡ from + n → ⊥)
+low-digit : (b : ℕ) → 48 ≤ b → b ≤ 57 → (isDigit b ≡ true) × (digitValue b ≡ b - 48)
+unfolding digitValue
+low-digit b from to = (sym (digit-to-57 b to) ∙ le-leb 48 b from, rw (le-leb b 57 to))
 
-rest-of : (P : Type 0) (b from n : ℕ) → Without P b from n → P
-rest-of P b from zero w = w
-rest-of P b from (suc n) w = rest-of P b from n (w .0)
+high-digit : (b : ℕ) → 65 ≤ b → b ≤ 70 → (isDigit b ≡ true) × (digitValue b ≡ b - 55)
+unfolding digitValue
+high-digit b from to = (sym (digit-to-70 b (omega arith) to) ∙ le-leb 65 b from, rw (lt-leb b 57 (omega arith)))
 
-outside : (P : Type 0) (b from n : ℕ) → Without P b from n → from ≤ b → b < from + n → ⊥
-outside P b from zero w l u = omega arith
-outside P b from (suc n) w l u = outside P b from n (w .0) l (omega (arith, w .1))
-
--- a byte that is none of the 16 digits
-pub no-digit : (b : ℕ) → Without (Without (Unit {0}) b 48 10) b 65 6 → isDigit b ≡ false
-no-digit b w = go (isDigit b) refl
+-- no two digits have one value
+digit-once : (a b : ℕ) → isDigit a ≡ true → isDigit b ≡ true → digitValue a ≡ digitValue b → a ≡ b
+digit-once a b p q e = go (digit a p) (digit b q)
   where
-    in-no-range : Digit b → ⊥
-    in-no-range (low from to v) =
-        outside (Unit {0}) b 48 10 (rest-of (Without (Unit {0}) b 48 10) b 65 6 w) from (omega arith)
-    in-no-range (high from to v) = outside (Without (Unit {0}) b 48 10) b 65 6 w from (omega arith)
+    go : Digit a → Digit b → a ≡ b
+    go (low f t v) (low f′ t′ v′) = omega arith
+    go (low f t v) (high f′ t′ v′) = absurd (omega arith)
+    go (high f t v) (low f′ t′ v′) = absurd (omega arith)
+    go (high f t v) (high f′ t′ v′) = omega arith
 
-    go : (t : Bool) → isDigit b ≡ t → isDigit b ≡ false
-    go true d = absurd (in-no-range (digit b d))
-    go false d = d
+-- ---- the table of values
+
+pub low-byte : (d : ℕ) → d < 10 → DigitByte d (48 + d)
+low-byte d h =
+    let b = low-digit (48 + d) (omega arith) (omega arith) in
+    record { inside = omega arith; right = b .0; value = b .1 ∙ omega arith }
+
+pub high-byte : (d : ℕ) → 10 ≤ d → d < 16 → DigitByte d (55 + d)
+high-byte d g h =
+    let b = high-digit (55 + d) (omega arith) (omega arith) in
+    record { inside = omega arith; right = b .0; value = b .1 ∙ omega arith }
+
+-- a byte reads as its value where that is one of the digits below d
+abbrev readBelow : ℕ → ℕ → ℕ
+readBelow d b = cond (isDigit b && ltb (digitValue b) d) (digitValue b) 65536
+
+-- the values of the digits below d are set
+pub record ValuesBelow (d : ℕ) (values : List ℕ) : Type 0 where
+  pub room : length values ≡ 256
+  pub value-at : (b : ℕ) → b < 256 → getD values b 0 ≡ readBelow d b
+
+pub values-none : ValuesBelow 0 (replicate 256 65536)
+values-none = record { room = length-replicate {A = ℕ} 256 65536; value-at = λ b h. getD-replicate 256 b 65536 0 h ∙ none b (isDigit b) refl }
+  where
+    none : (b : ℕ) (t : Bool) → isDigit b ≡ t → 65536 ≡ readBelow 0 b
+    none b false e = rw e refl
+    none b true e = rw (e, le-ltb (digitValue b) 0 (omega arith)) refl
+
+-- a digit other than d is below d exactly where it is below the next
+other-digit : (d b : ℕ) (t : Bool) → isDigit b ≡ t → (t ≡ true → digitValue b ≢ d) → readBelow d b ≡ readBelow (d + 1) b
+other-digit d b false e h = rw e refl
+other-digit d b true e h = rw (e, same-test (ltb (digitValue b) d) (ltb (digitValue b) (d + 1)) (λ l. lt-ltb (digitValue b) (d + 1) (omega (arith, ltb-true (digitValue b) d l))) (λ l. lt-ltb (digitValue b) d (let apart = h refl in let below = ltb-true (digitValue b) (d + 1) l in omega arith))) refl
+
+pub values-more : (d a : ℕ) (values : List ℕ) → DigitByte d a → ValuesBelow d values → ValuesBelow (d + 1) (set values a d)
+values-more d a values by so-far =
+    record {
+      room = length-set values a d ∙ so-far .room;
+      value-at = λ b h. go b h (decide b);
+    }
+  where
+    decide : (b : ℕ) → (a ≡ b) ⊎ (a ≢ b)
+    decide b = ⊎-elim (λ e. inl (eqb-true a b e)) (λ e. inr (eqb-false a b e)) (answers (eqb a b))
+
+    go : (b : ℕ) → b < 256 → (a ≡ b) ⊎ (a ≢ b) → getD (set values a d) b 0 ≡ readBelow (d + 1) b
+    go b h (inl e) = rw (← e, getD-set-same values a d 0 (omega (arith, so-far .room, by .inside)), by .right, by .value, lt-ltb d (d + 1) (omega arith)) refl
+    go b h (inr n) = getD-set-other values a b d 0 (λ e. n (sym e)) ∙ so-far .value-at b h ∙ other-digit d b (isDigit b) refl (λ e v. n (digit-once a b (by .right) e (by .value ∙ sym v)))
+
+pub values-all : (values : List ℕ) → ValuesBelow 16 values → DigitValues values
+values-all values so-far = record { room = so-far .room; value-at = λ b h. so-far .value-at b h ∙ go b (isDigit b) refl }
+  where
+    go : (b : ℕ) (t : Bool) → isDigit b ≡ t → readBelow 16 b ≡ digitRead b
+    go b false e = rw e refl
+    go b true e = rw (e, lt-ltb (digitValue b) 16 (below-16 b e)) refl
+
+-- what a value reads as is small
+pub read-small : (b : ℕ) → digitRead b ≤ 65536
+read-small b = go (isDigit b) refl
+  where
+    go : (t : Bool) → isDigit b ≡ t → digitRead b ≤ 65536
+    go false e = rw e (omega arith)
+    go true e = rw e (omega (arith, below-16 b e))
 
 -- ---- a field
 
@@ -129,15 +191,6 @@ field-read s at h =
     record { tells = rw (four-at s at h) (t .0); value = rw (four-at s at h) (t .1) }
 
 -- ---- the kind
-
-same-test : (x y : Bool) → (x ≡ true → y ≡ true) → (y ≡ true → x ≡ true) → x ≡ y
-same-test true y f g = sym (f refl)
-same-test false true f g = g refl
-same-test false false f g = refl
-
-low-digit : (b : ℕ) → 48 ≤ b → b ≤ 57 → (isDigit b ≡ true) × (digitValue b ≡ b - 48)
-unfolding digitValue
-low-digit b from to = (sym (digit-to-57 b to) ∙ le-leb 48 b from, rw (le-leb b 57 to))
 
 spelled : (a b k : ℕ) → k < 10 → Digit a → Digit b → digitValue a * 16 + digitValue b ≡ k → (a ≡ 48) × (b ≡ 48 + k)
 spelled a b k h (low f t v) (low f′ t′ v′) e = omega arith

@@ -1,9 +1,9 @@
--- What is read at fixed positions of a line: a digit, a field, the kind, the line's end. Assumes nothing.
+-- What is read at fixed positions of a line: a digit, a field, the kind, the line's end.
 use Prim.Native.Nat.{ℕ, _<_}
 use mathlib.Core.Path.{_≡_}
-use mathlib.Core.Bool.{Bool, cond, _&&_}
+use mathlib.Core.Bool.{Bool, true, cond, _&&_}
 use mathlib.Core.List.{List}
-use lib.ListN.{getD, take, drop}
+use lib.ListN.{length, getD, take, drop}
 use lib.Dec.{eqb, ltb}
 use Rattle.model.specs.Lists.{allOf}
 use Rattle.model.specs.Table.{isDigit, digitValue, kindOf, fieldAt}
@@ -11,6 +11,17 @@ use Rattle.model.specs.Table.{isDigit, digitValue, kindOf, fieldAt}
 -- a digit's value; a wrong digit has 65,536, which no field of right digits reaches
 abbrev pub digitRead : ℕ → ℕ
 digitRead b = cond (isDigit b) (digitValue b) 65536
+
+-- the byte b spells the digit d
+pub record DigitByte (d b : ℕ) : Type 0 where
+  pub inside : b < 256
+  pub right : isDigit b ≡ true
+  pub value : digitValue b ≡ d
+
+-- a table of what each byte reads as
+pub record DigitValues (values : List ℕ) : Type 0 where
+  pub room : length values ≡ 256
+  pub value-at : (b : ℕ) → b < 256 → getD values b 0 ≡ digitRead b
 
 -- r is the field at `at`, or 65,536 or more where one of its digits is wrong
 pub record FieldRead (s : List ℕ) (at r : ℕ) : Type 0 where

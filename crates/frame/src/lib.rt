@@ -2,11 +2,11 @@
 // fixed positions, and nothing is searched for.
 ghost use mathlib.Core.Bool.{true, false};
 ghost use mathlib.Core.Path.{_≡_};
-ghost use Prim.Native.Nat.{_+_, _≤_};
+ghost use Prim.Native.Nat.{_+_, _<_, _≤_};
 ghost use lib.ListN.{length, drop};
 ghost use Rattle.model.specs.Table.{firstLine, frameOf};
 ghost use Rattle.model.specs.Answers.{frameAnswer, lineAnswer};
-ghost use Rattle.frame.specs.Fields.{digitRead, FieldRead, KindRead, endsAfter};
+ghost use Rattle.frame.specs.Fields.{digitRead, DigitByte, DigitValues, FieldRead, KindRead, endsAfter};
 use model::Frame;
 use model::FrameRead;
 use model::LayoutNumber;
@@ -23,41 +23,49 @@ const LINE_END: u8 = 10;
 // What a wrong digit counts: more than any field of four right ones.
 const WRONG_DIGIT: u32 = 65536;
 
-// Upper-case hexadecimal. An arm for each digit compiles to a table; two ranges would compile to branches, and which digit comes next
-// is not to be foreseen.
-fn digit_value(b: u8) -> u32
-    ensures { λ r. ⌜ (r ≡ digitRead b) × (r ≤ 65536) ⌝ }
+// The byte of a digit.
+fn digit_byte(digit: usize) -> usize
+    requires { ⌜ digit < 16 ⌝ }
+    ensures { λ r. ⌜ DigitByte digit r ⌝ }
 {
-    match b {
-        b'0' => 0,
-        b'1' => 1,
-        b'2' => 2,
-        b'3' => 3,
-        b'4' => 4,
-        b'5' => 5,
-        b'6' => 6,
-        b'7' => 7,
-        b'8' => 8,
-        b'9' => 9,
-        b'A' => 10,
-        b'B' => 11,
-        b'C' => 12,
-        b'D' => 13,
-        b'E' => 14,
-        b'F' => 15,
-        _ => WRONG_DIGIT,
+    if digit < 10 {
+        return 48 + digit;
     }
+    55 + digit
+}
+
+// The value of each byte as a digit of upper-case hexadecimal, WRONG_DIGIT for one that is none. A caller makes them once and lends them to every
+// read: which digit comes next is not to be foreseen, so tests would cost more than the table.
+pub fn digit_values() -> [u32; 256]
+    ensures { λ r. ⌜ DigitValues r ⌝ }
+{
+    let mut values = [WRONG_DIGIT; 256];
+    let mut digit = 0;
+    while digit < 16 {
+        values[digit_byte(digit)] = digit as u32;
+        digit += 1;
+    }
+    values
+}
+
+fn digit_value(digits: &[u32; 256], byte: u8) -> u32
+    requires { ⌜ DigitValues (now digits) ⌝ }
+    ensures { λ r. ⌜ (r ≡ digitRead byte) × (r ≤ 65536) ⌝ }
+{
+    let at = byte as usize;
+    digits[at]
 }
 
 // The field of four digits at `at`; WRONG_DIGIT or more exactly where one of them is wrong.
-fn field(s: &[u8], at: usize) -> u32
+fn field(digits: &[u32; 256], s: &[u8], at: usize) -> u32
+    requires { ⌜ DigitValues (now digits) ⌝ }
     requires { ⌜ at + 4 ≤ length (now s) ⌝ }
     ensures { λ r. ⌜ FieldRead (now (s .entry)) at r ⌝ }
 {
-    digit_value(s[at]) * 4096
-        + digit_value(s[at + 1]) * 256
-        + digit_value(s[at + 2]) * 16
-        + digit_value(s[at + 3])
+    digit_value(digits, s[at]) * 4096
+        + digit_value(digits, s[at + 1]) * 256
+        + digit_value(digits, s[at + 2]) * 16
+        + digit_value(digits, s[at + 3])
 }
 
 // The kind of a line, 1 to 4; any other number where it is unknown.
@@ -94,11 +102,12 @@ fn no_frame(line: u16) -> FrameRead
 }
 
 // 01 P.
-fn short_frame(s: &[u8], line: u16) -> FrameRead
+fn short_frame(digits: &[u32; 256], s: &[u8], line: u16) -> FrameRead
+    requires { ⌜ DigitValues (now digits) ⌝ }
     requires { ⌜ endsAfter 6 (now s) ≡ true ⌝ }
     ensures { λ r. ⌜ frameAnswer r ≡ lineAnswer line (frameOf (firstLine (now (s .entry)))) ⌝ }
 {
-    let parent = field(s, 2);
+    let parent = field(digits, s, 2);
     if WRONG_DIGIT <= parent {
         return no_frame(line);
     }
@@ -109,12 +118,13 @@ fn short_frame(s: &[u8], line: u16) -> FrameRead
 }
 
 // 02 T B, 04 T B and 03 N M.
-fn long_frame(s: &[u8], line: u16) -> FrameRead
+fn long_frame(digits: &[u32; 256], s: &[u8], line: u16) -> FrameRead
+    requires { ⌜ DigitValues (now digits) ⌝ }
     requires { ⌜ (endsAfter 6 (now s) ≡ false) × (endsAfter 10 (now s) ≡ true) ⌝ }
     ensures { λ r. ⌜ frameAnswer r ≡ lineAnswer line (frameOf (firstLine (now (s .entry)))) ⌝ }
 {
-    let first = field(s, 2);
-    let second = field(s, 6);
+    let first = field(digits, s, 2);
+    let second = field(digits, s, 6);
     if WRONG_DIGIT <= first {
         return no_frame(line);
     }
@@ -134,7 +144,8 @@ fn long_frame(s: &[u8], line: u16) -> FrameRead
 
 // The frame of the line that begins at `at`, or refusal 1 at `line`, the line's own number: a line without its 0A, an unknown kind,
 // a wrong length or a wrong digit.
-pub fn read_frame(bytes: &[u8], at: usize, line: u16) -> FrameRead
+pub fn read_frame(digits: &[u32; 256], bytes: &[u8], at: usize, line: u16) -> FrameRead
+    requires { ⌜ DigitValues (now digits) ⌝ }
     ensures { λ r. ⌜ frameAnswer r ≡ lineAnswer line (frameOf (firstLine (drop at (now (bytes .entry))))) ⌝ }
 {
     if bytes.len() < at {
@@ -142,10 +153,10 @@ pub fn read_frame(bytes: &[u8], at: usize, line: u16) -> FrameRead
     }
     let s = &bytes[at..];
     if ends_after(s, 6) {
-        return short_frame(s, line);
+        return short_frame(digits, s, line);
     }
     if ends_after(s, 10) {
-        return long_frame(s, line);
+        return long_frame(digits, s, line);
     }
     no_frame(line)
 }

@@ -14,7 +14,7 @@ returns c =
       c .before .before .digit-value3 .ensures .0,
       c .digit-value4 .ensures .0,
     )
-    (field-read (start .args .s .now) (start .args .at) (start .pre))
+    (field-read (start .args .s .now) (start .args .at) (start .pre .1))
 
 -- each index is within the bytes, and four wrong digits still fit
 pub field-spec : {M : Type 1} → statement M

@@ -18,14 +18,14 @@ frame-of c =
     let start = c .before .before .before .before .before .before in
     let f = c .before .before .before .before .field in
     let g = c .before .before .before .field2 in
-    long-right (start .args .s .now) (start .pre .0) (start .pre .1) (f .result) (g .result) (f .ensures) (g .ensures)
+    long-right (start .args .s .now) (start .pre .1 .0) (start .pre .1 .1) (f .result) (g .result) (f .ensures) (g .ensures)
     (c .before .before .if1 .left) (c .before .if2 .left) (c .kind-of .result) (c .kind-of .ensures)
 
 field-requires : tie.Need-field-requires
-field-requires c κs = omega (arith, ends-within 10 (c .before .args .s .now) (c .before .pre .1))
+field-requires c κs = (c .before .pre .0, omega (arith, ends-within 10 (c .before .args .s .now) (c .before .pre .1 .1)))
 
 field-requires-2 : tie.Need-field-requires-2
-field-requires-2 c κs = omega (arith, ends-within 10 (c .before .before .args .s .now) (c .before .before .pre .1))
+field-requires-2 c κs = (c .before .before .pre .0, omega (arith, ends-within 10 (c .before .before .args .s .now) (c .before .before .pre .1 .1)))
 
 no-frame-requires : tie.Need-no-frame-requires
 no-frame-requires c κs = search needs
@@ -35,7 +35,7 @@ returns c =
     let start = c .before .before .before .before .before in
     let f = c .before .before .before .field in
     let g = c .before .before .field2 in
-    let none = first-wrong (start .args .s .now) (start .pre .0) (start .pre .1) (f .result) (g .result) (f .ensures) (g .ensures) (c .before .if1 .taken) in
+    let none = first-wrong (start .args .s .now) (start .pre .1 .0) (start .pre .1 .1) (f .result) (g .result) (f .ensures) (g .ensures) (c .before .if1 .taken) in
     rw (c .no-frame .ensures, none)
 
 no-frame-requires-2 : tie.Need-no-frame-requires-2
@@ -46,7 +46,7 @@ returns-2 c =
     let start = c .before .before .before .before .before .before in
     let f = c .before .before .before .before .field in
     let g = c .before .before .before .field2 in
-    let none = second-wrong (start .args .s .now) (start .pre .0) (start .pre .1) (f .result) (g .result) (f .ensures) (g .ensures) (c .before .if2 .taken) in
+    let none = second-wrong (start .args .s .now) (start .pre .1 .0) (start .pre .1 .1) (f .result) (g .result) (f .ensures) (g .ensures) (c .before .if2 .taken) in
     rw (c .no-frame2 .ensures, none)
 
 cast-first : tie.Need-cast-first
@@ -58,7 +58,7 @@ cast-second c = search needs
 kind-of-requires : tie.Need-kind-of-requires
 kind-of-requires c κs =
     let start = c .before .before .before .before .before in
-    omega (arith, ends-within 10 (start .args .s .now) (start .pre .1))
+    omega (arith, ends-within 10 (start .args .s .now) (start .pre .1 .1))
 
 no-frame-requires-3 : tie.Need-no-frame-requires-3
 no-frame-requires-3 c κs = search needs

@@ -37,7 +37,7 @@ ends-after-requires : tie.Need-ends-after-requires
 ends-after-requires c κs = search needs
 
 short-frame-requires : tie.Need-short-frame-requires
-short-frame-requires c κs = sym (c .before .ends-after .ensures) ∙ c .if2 .taken
+short-frame-requires c κs = (c .before .before .before .before .before .pre, sym (c .before .ends-after .ensures) ∙ c .if2 .taken)
 
 returns-2 : tie.Need-returns-2
 returns-2 c =
@@ -49,7 +49,7 @@ ends-after-requires-2 c κs = search needs
 
 long-frame-requires : tie.Need-long-frame-requires
 long-frame-requires c κs =
-    (sym (c .before .before .before .ends-after .ensures) ∙ c .before .before .if2 .left, sym (c .before .ends-after2 .ensures) ∙ c .if3 .taken)
+    (c .before .before .before .before .before .before .before .pre, (sym (c .before .before .before .ends-after .ensures) ∙ c .before .before .if2 .left, sym (c .before .ends-after2 .ensures) ∙ c .if3 .taken))
 
 returns-3 : tie.Need-returns-3
 returns-3 c =
