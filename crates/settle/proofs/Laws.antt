@@ -1,5 +1,4 @@
--- Laws that the proofs of settling cite.
--- Assumes nothing.
+-- Laws of right parents: the rule of one layout, and the verdict on the layouts from x on.
 use Prim.Native.Nat.{ℕ, zero, suc, _+_, _-_, _<_, _≤_}
 use mathlib.Core.Path.{_≡_, refl, _∙_}
 use mathlib.Core.Bool.{true, false, not}
@@ -12,8 +11,6 @@ use lib.Dec.{eqb, ltb}
 use borrow.Author.Tests.{lt-ltb, le-ltb}
 use Rattle.model.specs.Verdict.{refuseIf, _then_}
 use Rattle.model.specs.Tree.{rightParent, layoutsFrom}
-
--- ---- parents
 
 pub right-later : (x p : ℕ) → ((x ≡ 0) → ⊥) → ltb p x ≡ rightParent x p
 unfolding rightParent

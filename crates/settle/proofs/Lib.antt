@@ -1,3 +1,4 @@
+-- Laws that the proofs of settling cite.
 pub mod Laws
 pub mod Stamps
 pub mod Copies

@@ -1,25 +1,26 @@
 -- Laws of numbering the leaves child by child: what one child adds, and what all of them come to.
--- Assumes nothing.
 use Prim.Native.Nat.{ℕ, zero, suc, _+_, _-_, _<_, _≤_}
 use mathlib.Core.Path.{_≡_, refl, sym, ap, _∙_}
 use mathlib.Core.Logic.{_⊎_, ⊎-elim}
-use mathlib.Core.Bool.{Bool, true, false, cond, not, _||_, _&&_, or-assoc, or-true, or-false, and-true, and-false, and-or-distrib-left}
+use mathlib.Core.Bool.{Bool, true, false, cond, not, _||_, _&&_, or-assoc, or-false, and-true, and-false, and-or-distrib-left}
 use mathlib.Core.List.{List, [], _∷_, _++_, headD, flatMap, append-assoc, append-nil, List·Memᴰ, List·Memᴰ·head, List·Memᴰ·tail, Memᴰ·append-right}
 use native.Mathlib.Nat.{sub-zero, add-zero}
 use native.Mathlib.Omega.{arith}
 use native.Mathlib.Decide.{ℕ-discrete, decLt}
 use lib.ListN.{length, getD, set, length-set, length-append}
+use lib.Seq.{getD-set-other}
 use lib.Dec.{eqb, ltb}
 use borrow.Author.Tests.{lt-ltb, le-ltb, eq-eqb, ne-eqb, eqb-false}
 use Rattle.model.specs.Lists.{numbers, numbersFrom, anyOf, select}
-use Rattle.model.specs.Tree.{FFFF, ancestorOrSelf, children, leaves, firstLeaf, lastLeaf}
+use Rattle.model.specs.Tree.{FFFF, layoutLimit, ancestorOrSelf, children, leaves, firstLeaf, lastLeaf}
 use Rattle.tree_laws.specs.WellFormed.{Tree}
-use Rattle.tree_laws.specs.Lists.{answers}
+use Rattle.tree_laws.specs.Lists.{answers, any-mem, mem-any}
 use Rattle.tree_laws.specs.Chain.{AncestorOrSelf, ancestor-true, true-ancestor, ancestor-le, ancestor-refl}
 use Rattle.tree_laws.specs.Children.{child-parent, child-greater, rest-greater, ancestor-child, child-ancestor}
 use Rattle.tree_laws.specs.Leaves.{leaves-nonempty, leaves-of-leaf, leaves-of-children, first-of-child, last-is, last-lt}
-use Rattle.settle.specs.Numbering.{isChild, childrenFrom, Linked, Stamped, atOrBelow, strictlyBelow, Numberable, Numbered}
-use Rattle.settle.proofs.Stamps.{stamped-as, stamped-set, stamped-then}
+use Rattle.settle.specs.Spanned.{firstCells, lastCells, treeCells}
+use Rattle.settle.specs.Numbering.{isChild, childrenFrom, siblingCells, Linked, Stamped, inSubtree, properlyInSubtree, Numberable, Numbered}
+use Rattle.settle.proofs.Stamps.{stamped-as, stamped-set, stamped-other, stamped-then}
 
 -- ---- the children after a child
 
@@ -63,23 +64,8 @@ unfolding anyOf
 any-append p [] ys = refl
 any-append p (x ∷ xs) ys = ap (λ (b : Bool). p x || b) (any-append p xs ys) ∙ sym (or-assoc (p x) (anyOf p xs) (anyOf p ys))
 
-any-mem : (p : ℕ → Bool) (xs : List ℕ) → anyOf p xs ≡ true → (x : ℕ) × (List·Memᴰ x xs × (p x ≡ true))
-unfolding anyOf
-any-mem p [] e = let z : _≡_ {A = ℕ} 0 1 = cc in absurd (omega arith)
-any-mem p (x ∷ xs) e = ⊎-elim
-    (λ (h : p x ≡ true). (x, (List·Memᴰ·head refl, h)))
-    (λ (h : p x ≡ false).
-    let m : (x : ℕ) × (List·Memᴰ x xs × (p x ≡ true)) = any-mem p xs (rw h at e) in
-    (m .0, (List·Memᴰ·tail (m .1 .0), m .1 .1)))
-    (answers (p x))
-
-mem-any : (p : ℕ → Bool) {x : ℕ} {xs : List ℕ} → List·Memᴰ x xs → p x ≡ true → anyOf p xs ≡ true
-unfolding anyOf
-mem-any p (List·Memᴰ·head {xs = ys} same) e = rw (← same, e)
-mem-any p (List·Memᴰ·tail {x = y} {xs = ys} m) e = rw (mem-any p m e) (or-true (p y))
-
 -- under one child more
-pub under-more : (ps done : List ℕ) (c y : ℕ) → (under ps done y || atOrBelow ps c y) ≡ under ps (done ++ c ∷ []) y
+pub under-more : (ps done : List ℕ) (c y : ℕ) → (under ps done y || inSubtree ps c y) ≡ under ps (done ++ c ∷ []) y
 unfolding anyOf
 under-more ps done c y =
     rw (any-append (λ (d : ℕ). ancestorOrSelf ps d y) done (c ∷ []), or-false (ancestorOrSelf ps c y))
@@ -89,7 +75,7 @@ true-false : {b : Bool} → b ≡ true → b ≡ false → ⊥
 true-false {b} p q = let z : _≡_ {A = ℕ} 0 1 = cc in omega arith
 
 module _ (ps : List ℕ) (t : Tree ps) (x : ℕ) (known : x < length ps) where
-  -- under all of the children is strictly below
+  -- under one of the children is a descendant
   under-inside : (y : ℕ) → y < length ps → anyOf (λ (c : ℕ). ancestorOrSelf ps c y) (children ps x) ≡ (ancestorOrSelf ps x y && not (eqb y x))
   under-inside y inside = ⊎-elim
       (λ (h : anyOf (λ (c : ℕ). ancestorOrSelf ps c y) (children ps x) ≡ true).
@@ -109,32 +95,32 @@ module _ (ps : List ℕ) (t : Tree ps) (x : ℕ) (known : x < length ps) where
           (λ (m : (c : ℕ) × (List·Memᴰ c (children ps x) × AncestorOrSelf ps c y)). true-false (mem-any (λ (c : ℕ). ancestorOrSelf ps c y) (m .1 .0) (true-ancestor ps t (m .1 .1))) h)
           (ancestor-child ps t inside (ancestor-true ps t x y p)))
 
-  pub under-all : (y : ℕ) → under ps (children ps x) y ≡ strictlyBelow ps x y
+  pub under-all : (y : ℕ) → under ps (children ps x) y ≡ properlyInSubtree ps x y
   under-all y = elim (decLt y (length ps)) [
     | yes inside ↦ rw (lt-ltb y (length ps) inside) (under-inside y inside)
     | no outside ↦ rw (le-ltb y (length ps) (omega arith))
   ]
 
-  -- x itself and what is strictly below it
-  pub below-or-self : (y : ℕ) → (eqb y x || strictlyBelow ps x y) ≡ atOrBelow ps x y
+  -- x itself and its descendants
+  pub below-or-self : (y : ℕ) → (eqb y x || properlyInSubtree ps x y) ≡ inSubtree ps x y
   below-or-self y = elim (ℕ-discrete y x) [
     | yes same ↦ rw (same, eq-eqb x x refl, lt-ltb x (length ps) known, true-ancestor ps t (ancestor-refl ps t x))
-    | no other ↦ rw (ne-eqb y x other) (and-true (atOrBelow ps x y))
+    | no other ↦ rw (ne-eqb y x other) (and-true (inSubtree ps x y))
   ]
 
 -- ---- numbering child by child
 
 -- the children `done` are numbered, `rest` are not yet; c is the first of the rest, and `after` the number of its first leaf
-pub record ChildrenDone (ps : List ℕ) (x : ℕ) (firsts₀ lasts₀ firsts lasts : List ℕ) (c after : ℕ) : Type 0 where
+pub record ChildrenDone (ps : List ℕ) (x : ℕ) (old new : List ℕ) (c after : ℕ) : Type 0 where
   pub done : List ℕ
   pub rest : List ℕ
   pub split : children ps x ≡ done ++ rest
   pub current : c ≡ headD rest FFFF
   pub next-leaf : after ≡ firstLeaf ps x + length (flatMap (leaves ps) done)
-  pub firsts-same : length firsts ≡ length firsts₀
-  pub lasts-same : length lasts ≡ length lasts₀
-  pub firsts-hold : Stamped (under ps done) (firstLeaf ps) firsts₀ firsts
-  pub lasts-hold : Stamped (under ps done) (lastLeaf ps) lasts₀ lasts
+  pub same : length new ≡ length old
+  pub depths-kept : (y : ℕ) → y < layoutLimit → getD new y 0 ≡ getD old y 0
+  pub firsts-hold : Stamped firstCells layoutLimit (under ps done) (firstLeaf ps) old new
+  pub lasts-hold : Stamped lastCells layoutLimit (under ps done) (lastLeaf ps) old new
 
 -- the first child and what comes after it, where c is the head
 split-head : (c : ℕ) (rest : List ℕ) → c ≡ headD rest FFFF → ((c ≡ FFFF) → ⊥) → (tail : List ℕ) × (rest ≡ c ∷ tail)
@@ -157,31 +143,30 @@ unfolding flatMap
 flatMap-snoc f [] c = append-nil (f c)
 flatMap-snoc f (x ∷ xs) c = ap (λ (l : List ℕ). f x ++ l) (flatMap-snoc f xs c) ∙ sym (append-assoc (f x) (flatMap f xs) (f c))
 
-nothing-under : (ps : List ℕ) (f : ℕ → ℕ) (old : List ℕ) → Stamped (under ps []) f old old
+nothing-under : (base : ℕ) (ps : List ℕ) (f : ℕ → ℕ) (old : List ℕ) → Stamped base layoutLimit (under ps []) f old old
 unfolding anyOf
-nothing-under ps f old y = rw (and-false (ltb y (length ps)))
+nothing-under base ps f old y h = rw (and-false (ltb y (length ps)))
 
 module _ (ps : List ℕ) (t : Tree ps) (x : ℕ) (known : x < length ps) where
-  pub none-done : (firsts lasts : List ℕ) (c after : ℕ) → c ≡ headD (childrenFrom ps x 0) FFFF → after ≡ firstLeaf ps x → ChildrenDone ps x firsts lasts firsts lasts c after
+  pub none-done : (cells : List ℕ) (c after : ℕ) → c ≡ headD (childrenFrom ps x 0) FFFF → after ≡ firstLeaf ps x → ChildrenDone ps x cells cells c after
   unfolding flatMap
-  none-done firsts lasts c after e start =
+  none-done cells c after e start =
       record {
         done = [];
         rest = children ps x;
         split = refl;
         current = e ∙ ap (λ (l : List ℕ). headD l FFFF) (children-from ps x);
         next-leaf = start ∙ sym (add-zero (firstLeaf ps x));
-        firsts-same = refl;
-        lasts-same = refl;
-        firsts-hold = nothing-under ps (firstLeaf ps) firsts;
-        lasts-hold = nothing-under ps (lastLeaf ps) lasts;
+        same = refl;
+        depths-kept = λ y h. refl;
+        firsts-hold = nothing-under firstCells ps (firstLeaf ps) cells;
+        lasts-hold = nothing-under lastCells ps (lastLeaf ps) cells;
       }
 
   -- the current child is a child of x, and its first leaf is the next
-  pub record Current (done : List ℕ) (c : ℕ) (rest : List ℕ) (after : ℕ) : Type 0 where
+  pub record Current (done : List ℕ) (c : ℕ) (after : ℕ) : Type 0 where
     pub tail : List ℕ
     pub split : children ps x ≡ done ++ c ∷ tail
-    pub member : List·Memᴰ c (children ps x)
     pub inside : c < length ps
     pub positive : 0 < c
     pub parent : getD ps c 0 ≡ x
@@ -192,87 +177,92 @@ module _ (ps : List ℕ) (t : Tree ps) (x : ℕ) (known : x < length ps) where
   mem-middle [] c tail = List·Memᴰ·head refl
   mem-middle (d ∷ done) c tail = List·Memᴰ·tail (mem-middle done c tail)
 
-  pub current-child : (firsts₀ lasts₀ firsts lasts : List ℕ) (c after : ℕ) (d : ChildrenDone ps x firsts₀ lasts₀ firsts lasts c after) → ((c ≡ FFFF) → ⊥) → Current (d .done) c (d .rest) after
-  current-child firsts₀ lasts₀ firsts lasts c after d other =
-      let h : (tail : List ℕ) × (d .rest ≡ c ∷ tail) = split-head c (d .rest) (d .current) other in
-      let s : children ps x ≡ d .done ++ c ∷ h .0 = rw (← (h .1)) (d .split) in
-      let m : List·Memᴰ c (children ps x) = rw s (mem-middle (d .done) c (h .0)) in
-      record {
-        tail = h .0;
-        split = s;
-        member = m;
-        inside = child-parent ps t known m .0;
-        positive = child-parent ps t known m .2;
-        parent = child-parent ps t known m .1;
-        greater = child-greater ps t known m;
-        start = d .next-leaf ∙ sym (first-of-child ps t x known (d .done) c (h .0) s);
-      }
+  module _ (old new : List ℕ) (c after : ℕ) (d : ChildrenDone ps x old new c after) where
+    pub current-child : ((c ≡ FFFF) → ⊥) → Current (d .done) c after
+    current-child other =
+        let h : (tail : List ℕ) × (d .rest ≡ c ∷ tail) = split-head c (d .rest) (d .current) other in
+        let s : children ps x ≡ d .done ++ c ∷ h .0 = rw (← (h .1)) (d .split) in
+        let m : List·Memᴰ c (children ps x) = rw s (mem-middle (d .done) c (h .0)) in
+        record {
+          tail = h .0;
+          split = s;
+          inside = child-parent ps t known m .0;
+          positive = child-parent ps t known m .2;
+          parent = child-parent ps t known m .1;
+          greater = child-greater ps t known m;
+          start = d .next-leaf ∙ sym (first-of-child ps t x known (d .done) c (h .0) s);
+        }
 
-  -- a child more: what numbering it did comes after what was done
-  pub one-done : (child sibling firsts₀ lasts₀ firsts lasts : List ℕ) (c after : ℕ) (d : ChildrenDone ps x firsts₀ lasts₀ firsts lasts c after) → ((c ≡ FFFF) → ⊥) → Linked ps child sibling → (r : ℕ) (firsts′ lasts′ : List ℕ) → Numbered ps (atOrBelow ps c) c firsts lasts r firsts′ lasts′ → ChildrenDone ps x firsts₀ lasts₀ firsts′ lasts′ (getD sibling c 0) r
-  one-done child sibling firsts₀ lasts₀ firsts lasts c after d other links r firsts′ lasts′ n =
-      let h : Current (d .done) c (d .rest) after = current-child firsts₀ lasts₀ firsts lasts c after d other in
-      record {
-        done = d .done ++ c ∷ [];
-        rest = h .tail;
-        split = h .split ∙ sym (append-assoc (d .done) (c ∷ []) (h .tail));
-        current = links .sibling-at c (h .positive) (h .inside) ∙ rw (h .parent, children-after ps x (d .done) c (h .tail) (h .split));
-        next-leaf = n .after ∙ rw (← (h .start), d .next-leaf, flatMap-snoc (leaves ps) (d .done) c, length-append (flatMap (leaves ps) (d .done)) (leaves ps c)) (omega arith);
-        firsts-same = n .firsts-same ∙ d .firsts-same;
-        lasts-same = n .lasts-same ∙ d .lasts-same;
-        firsts-hold = stamped-as (λ (y : ℕ). under ps (d .done) y || atOrBelow ps c y) (under ps (d .done ++ c ∷ [])) (firstLeaf ps) firsts₀ firsts′ (under-more ps (d .done) c)
-            (stamped-then (under ps (d .done)) (atOrBelow ps c) (firstLeaf ps) firsts₀ firsts firsts′ (d .firsts-hold) (n .firsts-hold));
-        lasts-hold = stamped-as (λ (y : ℕ). under ps (d .done) y || atOrBelow ps c y) (under ps (d .done ++ c ∷ [])) (lastLeaf ps) lasts₀ lasts′ (under-more ps (d .done) c)
-            (stamped-then (under ps (d .done)) (atOrBelow ps c) (lastLeaf ps) lasts₀ lasts lasts′ (d .lasts-hold) (n .lasts-hold));
-      }
+    -- a writing at one child more, after what was done
+    more-under : (base : ℕ) (f : ℕ → ℕ) (newer : List ℕ) → Stamped base layoutLimit (under ps (d .done)) f old new → Stamped base layoutLimit (inSubtree ps c) f new newer → Stamped base layoutLimit (under ps (d .done ++ c ∷ [])) f old newer
+    more-under base f newer s n =
+        stamped-as base layoutLimit (λ (y : ℕ). under ps (d .done) y || inSubtree ps c y) (under ps (d .done ++ c ∷ [])) f old newer (under-more ps (d .done) c)
+        (stamped-then base layoutLimit (under ps (d .done)) (inSubtree ps c) f old new newer s n)
 
-  -- the next sibling has a greater number, or is FFFF
-  pub sibling-greater : (firsts₀ lasts₀ firsts lasts : List ℕ) (c after : ℕ) → (child sibling : List ℕ) → Linked ps child sibling → (d : ChildrenDone ps x firsts₀ lasts₀ firsts lasts c after) → ((c ≡ FFFF) → ⊥) → (c < getD sibling c 0) × (getD sibling c 0 ≤ FFFF)
-  sibling-greater firsts₀ lasts₀ firsts lasts c after child sibling links d other =
-      let h : Current (d .done) c (d .rest) after = current-child firsts₀ lasts₀ firsts lasts c after d other in
-      let e : getD sibling c 0 ≡ headD (h .tail) FFFF = links .sibling-at c (h .positive) (h .inside) ∙ rw (h .parent, children-after ps x (d .done) c (h .tail) (h .split)) in
-      let bounds : (y : ℕ) → List·Memᴰ y (h .tail) → (c < y) × (y < FFFF) = λ y m. (rest-greater ps t x (d .done) c (h .tail) (h .split) m, omega (arith, t .small, child-parent ps t {y = y} known (rw (h .split) (Memᴰ·append-right (d .done) (List·Memᴰ·tail m))) .0)) in
-      rw e (head-bounds c (h .tail) (omega (arith, t .small, h .inside)) bounds)
+    -- a child more: what numbering it did comes after what was done
+    pub one-done : ((c ≡ FFFF) → ⊥) → (links : List ℕ) → Linked ps links → (r : ℕ) (newer : List ℕ) → Numbered ps (inSubtree ps c) c new r newer → ChildrenDone ps x old newer (getD links (siblingCells + c) 0) r
+    one-done other links linked r newer n =
+        let h : Current (d .done) c after = current-child other in
+        record {
+          done = d .done ++ c ∷ [];
+          rest = h .tail;
+          split = h .split ∙ sym (append-assoc (d .done) (c ∷ []) (h .tail));
+          current = linked .sibling-at c (h .positive) (h .inside) ∙ rw (h .parent, children-after ps x (d .done) c (h .tail) (h .split));
+          next-leaf = n .after ∙ rw (← (h .start), d .next-leaf, flatMap-snoc (leaves ps) (d .done) c, length-append (flatMap (leaves ps) (d .done)) (leaves ps c)) (omega arith);
+          same = n .same ∙ d .same;
+          depths-kept = λ y k. n .depths-kept y k ∙ d .depths-kept y k;
+          firsts-hold = more-under firstCells (firstLeaf ps) newer (d .firsts-hold) (n .firsts-hold);
+          lasts-hold = more-under lastCells (lastLeaf ps) newer (d .lasts-hold) (n .lasts-hold);
+        }
 
-  -- all children are numbered: everything strictly below x, and the leaves of x are passed
-  pub all-done : (firsts₀ lasts₀ firsts lasts : List ℕ) (c after : ℕ) → ChildrenDone ps x firsts₀ lasts₀ firsts lasts c after → c ≡ FFFF → 0 < length (children ps x) → Numbered ps (strictlyBelow ps x) x firsts₀ lasts₀ after firsts lasts
-  all-done firsts₀ lasts₀ firsts lasts c after d e some =
-      let small : (d′ : ℕ) → List·Memᴰ d′ (d .rest) → d′ < FFFF = λ d′ m. omega (arith, t .small, child-parent ps t {y = d′} known (rw (d .split) (Memᴰ·append-right (d .done) m)) .0) in
-      let none : d .rest ≡ [] = no-head (d .rest) (sym e ∙ d .current) small in
-      let whole : d .done ≡ children ps x = sym (append-nil (d .done)) ∙ ap (λ (l : List ℕ). d .done ++ l) (sym none) ∙ sym (d .split) in
-      record {
-        after = d .next-leaf ∙ rw (whole, leaves-of-children ps t x known some);
-        firsts-same = d .firsts-same;
-        lasts-same = d .lasts-same;
-        firsts-hold = stamped-as (under ps (d .done)) (strictlyBelow ps x) (firstLeaf ps) firsts₀ firsts (λ y. ap (λ (l : List ℕ). under ps l y) whole ∙ under-all ps t x known y) (d .firsts-hold);
-        lasts-hold = stamped-as (under ps (d .done)) (strictlyBelow ps x) (lastLeaf ps) lasts₀ lasts (λ y. ap (λ (l : List ℕ). under ps l y) whole ∙ under-all ps t x known y) (d .lasts-hold);
-      }
+    -- the next sibling has a greater number, or is FFFF
+    pub sibling-greater : ((c ≡ FFFF) → ⊥) → (links : List ℕ) → Linked ps links → (c < getD links (siblingCells + c) 0) × (getD links (siblingCells + c) 0 ≤ FFFF)
+    sibling-greater other links linked =
+        let h : Current (d .done) c after = current-child other in
+        let e : getD links (siblingCells + c) 0 ≡ headD (h .tail) FFFF = linked .sibling-at c (h .positive) (h .inside) ∙ rw (h .parent, children-after ps x (d .done) c (h .tail) (h .split)) in
+        let bounds : (y : ℕ) → List·Memᴰ y (h .tail) → (c < y) × (y < FFFF) = λ y m. (rest-greater ps t x (d .done) c (h .tail) (h .split) m, omega (arith, t .small, child-parent ps t {y = y} known (rw (h .split) (Memᴰ·append-right (d .done) (List·Memᴰ·tail m))) .0)) in
+        rw e (head-bounds c (h .tail) (omega (arith, t .small, h .inside)) bounds)
+
+    -- all children are numbered: every descendant of x, and the leaves of x are passed
+    pub all-done : c ≡ FFFF → 0 < length (children ps x) → Numbered ps (properlyInSubtree ps x) x old after new
+    all-done e some =
+        let small : (d′ : ℕ) → List·Memᴰ d′ (d .rest) → d′ < FFFF = λ d′ m. omega (arith, t .small, child-parent ps t {y = d′} known (rw (d .split) (Memᴰ·append-right (d .done) m)) .0) in
+        let none : d .rest ≡ [] = no-head (d .rest) (sym e ∙ d .current) small in
+        let whole : d .done ≡ children ps x = sym (append-nil (d .done)) ∙ ap (λ (l : List ℕ). d .done ++ l) (sym none) ∙ sym (d .split) in
+        let all : (y : ℕ) → under ps (d .done) y ≡ properlyInSubtree ps x y = λ y. ap (λ (l : List ℕ). under ps l y) whole ∙ under-all ps t x known y in
+        record {
+          after = d .next-leaf ∙ rw (whole, leaves-of-children ps t x known some);
+          same = d .same;
+          depths-kept = d .depths-kept;
+          firsts-hold = stamped-as firstCells layoutLimit (under ps (d .done)) (properlyInSubtree ps x) (firstLeaf ps) old new all (d .firsts-hold);
+          lasts-hold = stamped-as lastCells layoutLimit (under ps (d .done)) (properlyInSubtree ps x) (lastLeaf ps) old new all (d .lasts-hold);
+        }
 
 -- ---- the two functions' own steps
 
-module _ (ps child sibling : List ℕ) (x next : ℕ) (firsts lasts : List ℕ) (n : Numberable ps child sibling x next firsts lasts) where
+module _ (ps links : List ℕ) (x next : ℕ) (cells : List ℕ) (n : Numberable ps links x next cells) where
   -- the next leaf is one of the tree's
   pub next-small : next < length ps
   next-small = omega (arith, n .start, last-is ps (n .tree) x (n .known), last-lt ps (n .tree) x (n .known), leaves-nonempty ps x)
 
-  first-child : getD child x 0 ≡ headD (children ps x) FFFF
-  first-child = n .links .child-at x (n .known) ∙ ap (λ (l : List ℕ). headD l FFFF) (children-from ps x)
+  first-child : getD links x 0 ≡ headD (children ps x) FFFF
+  first-child = n .linked .child-at x (n .known) ∙ ap (λ (l : List ℕ). headD l FFFF) (children-from ps x)
 
   -- a layout with no children is a leaf
-  pub leaf-numbered : getD child x 0 ≡ FFFF → Numbered ps (strictlyBelow ps x) x firsts lasts (next + 1) firsts lasts
+  pub leaf-numbered : getD links x 0 ≡ FFFF → Numbered ps (properlyInSubtree ps x) x cells (next + 1) cells
   leaf-numbered e =
       let small : (d : ℕ) → List·Memᴰ d (children ps x) → d < FFFF = λ d m. omega (arith, n .tree .small, child-parent ps (n .tree) {y = d} (n .known) m .0) in
       let none : children ps x ≡ [] = no-head (children ps x) (sym e ∙ first-child) small in
-      let below : (y : ℕ) → under ps [] y ≡ strictlyBelow ps x y = λ y. ap (λ (l : List ℕ). under ps l y) (sym none) ∙ under-all ps (n .tree) x (n .known) y in
+      let nobody : (y : ℕ) → under ps [] y ≡ properlyInSubtree ps x y = λ y. ap (λ (l : List ℕ). under ps l y) (sym none) ∙ under-all ps (n .tree) x (n .known) y in
       record {
         after = rw (n .start, leaves-of-leaf ps (n .tree) x (n .known) none);
-        firsts-same = refl;
-        lasts-same = refl;
-        firsts-hold = stamped-as (under ps []) (strictlyBelow ps x) (firstLeaf ps) firsts firsts below (nothing-under ps (firstLeaf ps) firsts);
-        lasts-hold = stamped-as (under ps []) (strictlyBelow ps x) (lastLeaf ps) lasts lasts below (nothing-under ps (lastLeaf ps) lasts);
+        same = refl;
+        depths-kept = λ y h. refl;
+        firsts-hold = stamped-as firstCells layoutLimit (under ps []) (properlyInSubtree ps x) (firstLeaf ps) cells cells nobody (nothing-under firstCells ps (firstLeaf ps) cells);
+        lasts-hold = stamped-as lastCells layoutLimit (under ps []) (properlyInSubtree ps x) (lastLeaf ps) cells cells nobody (nothing-under lastCells ps (lastLeaf ps) cells);
       }
 
-  pub some-children : ((getD child x 0 ≡ FFFF) → ⊥) → 0 < length (children ps x)
+  pub some-children : ((getD links x 0 ≡ FFFF) → ⊥) → 0 < length (children ps x)
   unfolding headD
   some-children other = go (children ps x) refl
     where
@@ -280,32 +270,30 @@ module _ (ps child sibling : List ℕ) (x next : ℕ) (firsts lasts : List ℕ) 
       go [] e = absurd (other (first-child ∙ rw e))
       go (d ∷ l) e = rw e (omega arith)
 
-  own-cell : (f : ℕ → ℕ) (old new : List ℕ) (v : ℕ) → x < length new → v ≡ f x → Stamped (strictlyBelow ps x) f old new → Stamped (atOrBelow ps x) f old (set new x v)
-  own-cell f old new v room e s =
-      stamped-as (λ (y : ℕ). eqb y x || strictlyBelow ps x y) (atOrBelow ps x) f old (set new x v) (below-or-self ps (n .tree) x (n .known))
-      (stamped-set (strictlyBelow ps x) f old new x v room e s)
+  own-cell : (base : ℕ) (f : ℕ → ℕ) (old new : List ℕ) (v : ℕ) → base + x < length new → v ≡ f x → Stamped base layoutLimit (properlyInSubtree ps x) f old new → Stamped base layoutLimit (inSubtree ps x) f old (set new (base + x) v)
+  own-cell base f old new v room e s =
+      stamped-as base layoutLimit (λ (y : ℕ). eqb y x || properlyInSubtree ps x y) (inSubtree ps x) f old (set new (base + x) v) (below-or-self ps (n .tree) x (n .known))
+      (stamped-set base layoutLimit (properlyInSubtree ps x) f old new x v room e s)
 
-  -- a layout's own cells, beside those of all below it
-  pub self-numbered : (r : ℕ) (firsts′ lasts′ : List ℕ) → Numbered ps (strictlyBelow ps x) x firsts lasts r firsts′ lasts′ → Numbered ps (atOrBelow ps x) x firsts lasts r (set firsts′ x next) (set lasts′ x (r - 1))
-  self-numbered r firsts′ lasts′ b =
+  -- a layout's own cells, beside those of its descendants
+  pub self-numbered : (r : ℕ) (new : List ℕ) → Numbered ps (properlyInSubtree ps x) x cells r new → Numbered ps (inSubtree ps x) x cells r (set (set new (firstCells + x) next) (lastCells + x) (r - 1))
+  self-numbered r new b =
       let last : r - 1 ≡ lastLeaf ps x = omega (arith, b .after, last-is ps (n .tree) x (n .known)) in
+      let inside : x < layoutLimit = omega (arith, n .known, n .tree .small) in
+      let room : length new ≡ treeCells = b .same ∙ n .room in
+      let room′ : length (set new (firstCells + x) next) ≡ treeCells = length-set new (firstCells + x) next ∙ room in
       record {
         after = b .after;
-        firsts-same = length-set firsts′ x next ∙ b .firsts-same;
-        lasts-same = length-set lasts′ x (r - 1) ∙ b .lasts-same;
-        firsts-hold = own-cell (firstLeaf ps) firsts firsts′ next (omega (arith, n .firsts-room, n .known, b .firsts-same)) (n .start) (b .firsts-hold);
-        lasts-hold = own-cell (lastLeaf ps) lasts lasts′ (r - 1) (omega (arith, n .lasts-room, n .known, b .lasts-same)) last (b .lasts-hold);
+        same = rw (length-set, length-set) (b .same);
+        depths-kept = λ y h. getD-set-other (set new (firstCells + x) next) (lastCells + x) y (r - 1) 0 (omega arith) ∙ getD-set-other new (firstCells + x) y next 0 (omega arith) ∙ b .depths-kept y h;
+        firsts-hold = stamped-other firstCells layoutLimit (inSubtree ps x) (firstLeaf ps) cells (set new (firstCells + x) next) (lastCells + x) (r - 1) (λ y h e. omega arith)
+            (own-cell firstCells (firstLeaf ps) cells new next (omega arith) (n .start) (b .firsts-hold));
+        lasts-hold = own-cell lastCells (lastLeaf ps) cells (set new (firstCells + x) next) (r - 1) (omega arith) last
+            (stamped-other lastCells layoutLimit (properlyInSubtree ps x) (lastLeaf ps) cells new (firstCells + x) next (λ y h e. omega arith) (b .lasts-hold));
       }
 
   -- what numbering the children passes on to numbering the current one
-  pub child-numberable : (firsts′ lasts′ : List ℕ) (c after : ℕ) (d : ChildrenDone ps x firsts lasts firsts′ lasts′ c after) → ((c ≡ FFFF) → ⊥) → Numberable ps child sibling c after firsts′ lasts′
-  child-numberable firsts′ lasts′ c after d other =
-      let h : Current ps (n .tree) x (n .known) (d .done) c (d .rest) after = current-child ps (n .tree) x (n .known) firsts lasts firsts′ lasts′ c after d other in
-      record {
-        tree = n .tree;
-        links = n .links;
-        firsts-room = omega (arith, n .firsts-room, d .firsts-same);
-        lasts-room = omega (arith, n .lasts-room, d .lasts-same);
-        known = h .inside;
-        start = h .start;
-      }
+  pub child-numberable : (new : List ℕ) (c after : ℕ) (d : ChildrenDone ps x cells new c after) → ((c ≡ FFFF) → ⊥) → Numberable ps links c after new
+  child-numberable new c after d other =
+      let h : Current ps (n .tree) x (n .known) (d .done) c after = current-child ps (n .tree) x (n .known) cells new c after d other in
+      record { tree = n .tree; linked = n .linked; room = d .same ∙ n .room; known = h .inside; start = h .start }

@@ -1,2 +1,4 @@
+-- A settled tree, and what the steps of settling promise one another.
 pub mod Spanned
 pub mod Numbering
+pub mod Checked

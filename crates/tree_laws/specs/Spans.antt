@@ -5,7 +5,7 @@ use mathlib.Core.Path.{_≡_, ap, _∙_}
 use mathlib.Core.Bool.{Bool, true, _&&_, and-eq-true-iff}
 use mathlib.Core.Logic.{_⊎_, inl, inr, _≢_}
 use mathlib.Core.List.{List, _++_, append-assoc, List·Memᴰ as Mem}
-use native.Mathlib.Decide.{decLt}
+use native.Mathlib.Decide.{decLt, decLe}
 use native.Mathlib.Omega.{arith}
 use lib.ListN.{length, getD, length-append}
 use lib.Dec.{leb}
@@ -96,3 +96,21 @@ module _ (ps : List ℕ) (t : Tree ps) where
   ancestor-test u x h j = same-test (ancestorOrSelf ps u x) (inSpan ps (firstLeaf ps x) u (depth ps u) (depth ps x))
       (λ e. let s = ancestor-span j (ancestor-true ps t u x e) in true-in-span ps (firstLeaf ps x) u (depth ps u) (depth ps x) (s .0) (s .1))
       (λ e. let s = in-span-true ps (firstLeaf ps x) u (depth ps u) (depth ps x) e in true-ancestor ps t (span-ancestor h j (s .0) (s .1)))
+
+  -- ---- common ancestors by first leaves
+
+  -- of two layouts with one first leaf the one that is no deeper is an ancestor of the other, or the same
+  pub one-first-leaf : {u x : ℕ} → u < length ps → x < length ps → firstLeaf ps u ≡ firstLeaf ps x → depth ps u ≤ depth ps x → AncestorOrSelf ps u x
+  one-first-leaf {u} {x} h j e d = span-ancestor h j (record { first = omega arith; last = omega (arith, first-le-last u h) }) d
+
+  -- what is above x, and has leaves as far as the first one of y, which lies further right than that of x, is above y: y is not above it, as that would put the first leaf of y left of that of x
+  pub reaching-ancestor : {u x y : ℕ} → x < length ps → y < length ps → firstLeaf ps x < firstLeaf ps y → AncestorOrSelf ps u x → firstLeaf ps y ≤ lastLeaf ps u → AncestorOrSelf ps u y
+  reaching-ancestor {u} {x} {y} h j right a reach =
+      let known : u < length ps = omega (arith, ancestor-le ps t a) in
+      let above : firstLeaf ps u ≤ firstLeaf ps x = nested h a .0 in
+      let in-u : InSpan ps (firstLeaf ps y) u = record { first = omega arith; last = reach } in
+      let in-y : InSpan ps (firstLeaf ps y) y = record { first = omega arith; last = first-le-last y j } in
+      elim (decLe (depth ps u) (depth ps y)) [
+        | yes d ↦ spans-meet known j in-u in-y d
+        | no d ↦ let outside : ⊥ = omega (arith, nested known (spans-meet j known in-y in-u (omega arith)) .0) in absurd outside
+      ]

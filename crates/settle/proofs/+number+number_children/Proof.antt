@@ -1,11 +1,14 @@
-use borrow.Author.Needs.{needs}
-use native.Mathlib.Omega.{arith}
-use Prim.Native.Nat.{ℕ, _<_, _+_, _-_}
+-- `settle::number` and `settle::number_children` meet their contracts. A call on x goes to greater layouts: twice what is left of the limit falls, and
+-- `number_children` stands one below `number`. The loop's invariant: the children passed are numbered.
 use mathlib.Core.List.{List}
 use Rattle.tree_laws.specs.Leaves.{leaves-nonempty}
 use Rattle.model.specs.Tree.{FFFF, layoutLimit}
 use Rattle.settle.specs.Numbering.{Numberable}
 use Rattle.settle.proofs.Walk.{ChildrenDone, none-done, current-child, one-done, sibling-greater, all-done, next-small, leaf-numbered, some-children, self-numbered, child-numberable}
+use Prim.Native.Nat.{ℕ, _<_, _+_, _-_}
+use borrow.Author.Needs.{needs}
+use native.Mathlib.Omega.{arith}
+use Prim.Native.Nat.{ℕ, _<_}
 use borrow.Fn.Kinds.{In}
 use borrow.Fn.PlainCycle.{Measures, is, falls, and}
 use Rattle.settle.proofs.number.Reads as number
@@ -17,32 +20,32 @@ use Rattle.settle.proofs.+number+number_children.Lts-number_children as
 use Rattle.settle.proofs.+number+number_children.{statement}
 use Rattle.settle.proofs.+number+number_children.Tie.{close}
 
-abbrev μ-number : Measures 4 number-kinds.ps ℕ
-μ-number κs a = (layoutLimit - a .1 .1 .0 .0) + (layoutLimit - a .1 .1 .0 .0)
+abbrev μ-number : Measures 2 number-kinds.ps ℕ
+μ-number κs a = (layoutLimit - a .1 .0 .0) + (layoutLimit - a .1 .0 .0)
 
-abbrev μ-number-children : Measures 4 number-children-kinds.ps ℕ
-μ-number-children κs a = (layoutLimit - a .1 .1 .0 .0) + (layoutLimit - a .1 .1 .0 .0) - 1
+abbrev μ-number-children : Measures 2 number-children-kinds.ps ℕ
+μ-number-children κs a = (layoutLimit - a .1 .0 .0) + (layoutLimit - a .1 .0 .0) - 1
 
-abbrev number-at : ℕ → In 4 number-kinds.ps
-number-at t = and 4 number-kinds.ps (is 4 number-kinds.ps μ-number t) number.Pre
+abbrev number-at : ℕ → In 2 number-kinds.ps
+number-at t = and 2 number-kinds.ps (is 2 number-kinds.ps μ-number t) number.Pre
 
-abbrev number-below : ℕ → In 4 number-kinds.ps
-number-below t = and 4 number-kinds.ps (falls 4 number-kinds.ps _<_ μ-number t) number.Pre
+abbrev number-below : ℕ → In 2 number-kinds.ps
+number-below t = and 2 number-kinds.ps (falls 2 number-kinds.ps _<_ μ-number t) number.Pre
 
-abbrev number-children-at : ℕ → In 4 number-children-kinds.ps
+abbrev number-children-at : ℕ → In 2 number-children-kinds.ps
 number-children-at t =
     and
-    4
+    2
     number-children-kinds.ps
-    (is 4 number-children-kinds.ps μ-number-children t)
+    (is 2 number-children-kinds.ps μ-number-children t)
     number-children.Pre
 
-abbrev number-children-below : ℕ → In 4 number-children-kinds.ps
+abbrev number-children-below : ℕ → In 2 number-children-kinds.ps
 number-children-below t =
     and
-    4
+    2
     number-children-kinds.ps
-    (falls 4 number-children-kinds.ps _<_ μ-number-children t)
+    (falls 2 number-children-kinds.ps _<_ μ-number-children t)
     number-children.Pre
 
 number-cast-at :
@@ -58,40 +61,52 @@ number-number-children-requires : (t : ℕ) → number-lts.Need-number-children-
   number-children.Post,
 ) (number-at t) number.Post
 number-number-children-requires t c κs =
-    let s = c .before .before .before in
+    let s = c .before .before in
     (omega (arith, s .pre .0, s .pre .1 .1 .known, s .pre .1 .1 .tree .small), s .pre .1)
 
-number-mul-firsts : (t : ℕ) → number-lts.Need-mul-firsts (
+number-add-tree : (t : ℕ) → number-lts.Need-add-tree (
   number-children-below t,
   number-children.Post,
 ) (number-at t) number.Post
-number-mul-firsts t c = search needs
+number-add-tree t c = search needs
 
-number-element-write-firsts : (t : ℕ) → number-lts.Need-element-write-firsts (
+number-mul-tree : (t : ℕ) → number-lts.Need-mul-tree (
   number-children-below t,
   number-children.Post,
 ) (number-at t) number.Post
-number-element-write-firsts t c = search needs
+number-mul-tree t c = search needs
 
-number-sub-lasts : (t : ℕ) → number-lts.Need-sub-lasts (
+number-element-write-tree : (t : ℕ) → number-lts.Need-element-write-tree (
   number-children-below t,
   number-children.Post,
 ) (number-at t) number.Post
-number-sub-lasts t c =
-    let s = c .before .before .before .before in
+number-element-write-tree t c = search needs
+
+number-sub-tree : (t : ℕ) → number-lts.Need-sub-tree (
+  number-children-below t,
+  number-children.Post,
+) (number-at t) number.Post
+number-sub-tree t c =
+    let s = c .before .before .before in
     omega (arith, c .number-children .ensures _ (s .pre .1 .1) .after, leaves-nonempty (s .pre .1 .0) (s .args .x .0))
 
-number-mul-lasts : (t : ℕ) → number-lts.Need-mul-lasts (
+number-add-tree-2 : (t : ℕ) → number-lts.Need-add-tree-2 (
   number-children-below t,
   number-children.Post,
 ) (number-at t) number.Post
-number-mul-lasts t c = search needs
+number-add-tree-2 t c = search needs
 
-number-element-write-lasts : (t : ℕ) → number-lts.Need-element-write-lasts (
+number-mul-tree-2 : (t : ℕ) → number-lts.Need-mul-tree-2 (
   number-children-below t,
   number-children.Post,
 ) (number-at t) number.Post
-number-element-write-lasts t c = search needs
+number-mul-tree-2 t c = search needs
+
+number-element-write-tree-2 : (t : ℕ) → number-lts.Need-element-write-tree-2 (
+  number-children-below t,
+  number-children.Post,
+) (number-at t) number.Post
+number-element-write-tree-2 t c = search needs
 
 number-returns :
     (t : ℕ) →
@@ -99,14 +114,13 @@ number-returns :
     (number-children-below t, number-children.Post)
     (number-at t)
     number.Post
-number-returns t c = λ ps n. self-numbered _ _ _ _ _ _ _ n _ _ _ (c .number-children .ensures ps n)
+number-returns t c = λ ps n. self-numbered _ _ _ _ _ n _ _ (c .number-children .ensures ps n)
 
 abbrev number-children-Inv-loop : number-children-lts.InvT-loop
-number-children-Inv-loop child sibling next firsts₀ lasts₀ at c₀ after₀ firsts lasts c after =
-    (ps : List ℕ) → Numberable ps child sibling at next firsts₀ lasts₀ → ChildrenDone ps at firsts₀ lasts₀ firsts lasts c after
+number-children-Inv-loop links next tree₀ at c₀ after₀ tree c after = (ps : List ℕ) → Numberable ps links at next tree₀ → ChildrenDone ps at tree₀ tree c after
 
 abbrev number-children-μ-loop : number-children-lts.MeasureT-loop
-number-children-μ-loop child sibling next firsts₀ lasts₀ at c₀ after₀ firsts lasts c after = FFFF - c
+number-children-μ-loop links next tree₀ at c₀ after₀ tree c after = FFFF - c
 
 number-children-cast-at :
     (t : ℕ) →
@@ -140,7 +154,7 @@ number-children-add-result : (t : ℕ) → number-children-lts.Need-add-result (
 ) (number-children-at t) number-children.Post number-children-Inv-loop number-children-μ-loop
 number-children-add-result t c =
     let n = c .before .before .before .pre .1 .1 in
-    omega (arith, next-small _ _ _ _ _ _ _ n, n .tree .small)
+    omega (arith, next-small _ _ _ _ _ n, n .tree .small)
 
 number-children-returns :
     (t : ℕ) →
@@ -150,13 +164,13 @@ number-children-returns :
     number-children.Post
     number-children-Inv-loop
     number-children-μ-loop
-number-children-returns t c = λ ps n. leaf-numbered _ _ _ _ _ _ _ n (c .if1 .taken)
+number-children-returns t c = λ ps n. leaf-numbered _ _ _ _ _ n (c .if1 .taken)
 
 number-children-loop-holds : (t : ℕ) → number-children-lts.Need-loop-holds (
   number-below t,
   number.Post,
 ) (number-children-at t) number-children.Post number-children-Inv-loop number-children-μ-loop
-number-children-loop-holds t c = λ ps n. none-done _ (n .tree) _ (n .known) _ _ _ _ (n .links .child-at _ (n .known)) (n .start)
+number-children-loop-holds t c = λ ps n. none-done _ (n .tree) _ (n .known) _ _ _ (n .linked .child-at _ (n .known)) (n .start)
 
 -- the child at hand is a layout, and so has a cell
 child-inside : (t : ℕ) (c : number-children-lts.In-loop (
@@ -165,7 +179,7 @@ child-inside : (t : ℕ) (c : number-children-lts.In-loop (
 ) (number-children-at t) number-children.Post number-children-Inv-loop number-children-μ-loop) → c .before .loop .c < layoutLimit
 child-inside t c =
     let n = c .before .before .before .before .before .pre .1 .1 in
-    let h = current-child _ (n .tree) _ (n .known) _ _ _ _ _ _ (c .before .loop .inv _ n) (c .loop-test .taken) in
+    let h = current-child _ (n .tree) _ (n .known) _ _ _ _ (c .before .loop .inv _ n) (c .loop-test .taken) in
     omega (arith, h .inside, n .tree .small)
 
 number-children-cast-here : (t : ℕ) → number-children-lts.Need-cast-here (
@@ -173,6 +187,12 @@ number-children-cast-here : (t : ℕ) → number-children-lts.Need-cast-here (
   number.Post,
 ) (number-children-at t) number-children.Post number-children-Inv-loop number-children-μ-loop
 number-children-cast-here t c = omega (arith, child-inside t c)
+
+number-children-add-following : (t : ℕ) → number-children-lts.Need-add-following (
+  number-below t,
+  number.Post,
+) (number-children-at t) number-children.Post number-children-Inv-loop number-children-μ-loop
+number-children-add-following t c = omega (arith, child-inside t c)
 
 number-children-mul-following : (t : ℕ) → number-children-lts.Need-mul-following (
   number-below t,
@@ -195,20 +215,20 @@ number-children-number-requires : (t : ℕ) → number-children-lts.Need-number-
   number.Post,
 ) (number-children-at t) number-children.Post number-children-Inv-loop number-children-μ-loop
 number-children-number-requires t c κs =
-    let s = c .before .before .before .before .before .before .before .before in
+    let s = c .before .before .before .before .before .before .before in
     let n = s .pre .1 .1 in
-    let done = c .before .before .before .before .loop .inv _ n in
-    let other = c .before .before .before .loop-test .taken in
-    let h = current-child _ (n .tree) _ (n .known) _ _ _ _ _ _ done other in
-    (omega (arith, s .pre .0, h .greater, h .inside, n .tree .small), (_, child-numberable _ _ _ _ _ _ _ n _ _ _ _ done other))
+    let done = c .before .before .before .loop .inv _ n in
+    let other = c .before .before .loop-test .taken in
+    let h = current-child _ (n .tree) _ (n .known) _ _ _ _ done other in
+    (omega (arith, s .pre .0, h .greater, h .inside, n .tree .small), (_, child-numberable _ _ _ _ _ n _ _ _ done other))
 
 number-children-loop-less : (t : ℕ) → number-children-lts.Need-loop-less (
   number-below t,
   number.Post,
 ) (number-children-at t) number-children.Post number-children-Inv-loop number-children-μ-loop
 number-children-loop-less t c =
-    let n = c .before .before .before .before .before .before .before .before .before .pre .1 .1 in
-    omega (arith, sibling-greater _ (n .tree) _ (n .known) _ _ _ _ _ _ _ _ (n .links) (c .before .before .before .before .before .loop .inv _ n) (c .before .before .before .before .loop-test .taken))
+    let n = c .before .before .before .before .before .before .before .before .pre .1 .1 in
+    omega (arith, sibling-greater _ (n .tree) _ (n .known) _ _ _ _ (c .before .before .before .before .loop .inv _ n) (c .before .before .before .loop-test .taken) _ (n .linked))
 
 number-children-loop-again : (t : ℕ) → number-children-lts.Need-loop-again (
   number-below t,
@@ -216,16 +236,15 @@ number-children-loop-again : (t : ℕ) → number-children-lts.Need-loop-again (
 ) (number-children-at t) number-children.Post number-children-Inv-loop number-children-μ-loop
 number-children-loop-again t c =
     λ ps n.
-    let done = c .before .before .before .before .before .loop .inv ps n in
-    let other = c .before .before .before .before .loop-test .taken in
-    one-done _ (n .tree) _ (n .known) _ _ _ _ _ _ _ _ done other (n .links) _ _ _ (c .number .ensures ps (child-numberable _ _ _ _ _ _ _ n _ _ _ _ done other))
+    let done = c .before .before .before .before .loop .inv ps n in
+    let other = c .before .before .before .loop-test .taken in
+    one-done _ (n .tree) _ (n .known) _ _ _ _ done other _ (n .linked) _ _ (c .number .ensures ps (child-numberable _ _ _ _ _ n _ _ _ done other))
 
 number-children-returns-2 : (t : ℕ) → number-children-lts.Need-returns-2 (
   number-below t,
   number.Post,
 ) (number-children-at t) number-children.Post number-children-Inv-loop number-children-μ-loop
-number-children-returns-2 t c =
-    λ ps n. all-done _ (n .tree) _ (n .known) _ _ _ _ _ _ (c .before .loop .inv ps n) (c .loop-test .left) (some-children _ _ _ _ _ _ _ n (c .before .before .if1 .left))
+number-children-returns-2 t c = λ ps n. all-done _ (n .tree) _ (n .known) _ _ _ _ (c .before .loop .inv ps n) (c .loop-test .left) (some-children _ _ _ _ _ n (c .before .before .if1 .left))
 
 pub +number+number-children-spec : {M : Type 1} → statement M
 +number+number-children-spec = close μ-number μ-number-children (λ t. number-lts.spec (
@@ -236,11 +255,13 @@ pub +number+number-children-spec : {M : Type 1} → statement M
     number.Post
     (number-cast-at t)
     (number-number-children-requires t)
-    (number-mul-firsts t)
-    (number-element-write-firsts t)
-    (number-sub-lasts t)
-    (number-mul-lasts t)
-    (number-element-write-lasts t)
+    (number-add-tree t)
+    (number-mul-tree t)
+    (number-element-write-tree t)
+    (number-sub-tree t)
+    (number-add-tree-2 t)
+    (number-mul-tree-2 t)
+    (number-element-write-tree-2 t)
     (number-returns t))
     λ t. number-children-lts.spec
     (number-below t, number.Post)
@@ -255,6 +276,7 @@ pub +number+number-children-spec : {M : Type 1} → statement M
     (number-children-returns t)
     (number-children-loop-holds t)
     (number-children-cast-here t)
+    (number-children-add-following t)
     (number-children-mul-following t)
     (number-children-element-copy-out-following t)
     (number-children-number-requires t)

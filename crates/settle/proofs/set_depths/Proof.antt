@@ -1,27 +1,27 @@
+-- `settle::set_depths` meets its contract. The loop's invariant: the depths of the layouts passed are written.
+use Prim.Native.Nat.{_-_, _<_}
+use lib.ListN.{length, getD}
+use Rattle.settle.proofs.Depths.{DepthsBelow, depths-root, parent-fits, depths-more, depths-all}
 use borrow.Author.Needs.{needs}
 use native.Mathlib.Omega.{arith}
-use Prim.Native.Nat.{_-_, _<_}
-use mathlib.Core.Path.{_∙_}
-use lib.ListN.{length, getD, length-set}
-use Rattle.settle.proofs.Depths.{DepthsBelow, depths-root, parent-fits, depths-more, depths-all}
 use Rattle.settle.proofs.set_depths.Statement.{statement}
 use Rattle.settle.proofs.set_depths.Tie as tie
 
 abbrev Inv-loop : tie.InvT-loop
-Inv-loop parents depths₀ x₀ depths x = DepthsBelow parents x depths₀ depths
+Inv-loop parents tree₀ x₀ tree x = DepthsBelow parents x tree₀ tree
 
 abbrev μ-loop : tie.MeasureT-loop
-μ-loop parents depths₀ x₀ depths x = length parents - x
+μ-loop parents tree₀ x₀ tree x = length parents - x
 
 -- the parent of the layout at hand has a smaller number
 parent-below : (c : tie.In-loop Inv-loop μ-loop) → getD (c .before .before .args .parents .now) (c .before .loop .x) 0 < c .before .loop .x
 parent-below c = c .before .before .pre .0 .smaller (c .before .loop .x) (omega arith)
 
-slice-write-depths : tie.Need-slice-write-depths Inv-loop μ-loop
-slice-write-depths c = search needs
+element-write-tree : tie.Need-element-write-tree Inv-loop μ-loop
+element-write-tree c = search needs
 
 loop-holds : tie.Need-loop-holds Inv-loop μ-loop
-loop-holds c = depths-root _ (c .args .depths .now) (c .pre .0) (c .pre .1)
+loop-holds c = depths-root _ (c .pre .0) (c .args .tree .now) (c .pre .1)
 
 mul-p : tie.Need-mul-p Inv-loop μ-loop
 mul-p c = search needs
@@ -32,35 +32,32 @@ shared-slice-read-p c = search needs
 cast-p : tie.Need-cast-p Inv-loop μ-loop
 cast-p c = omega (arith, parent-below (c .before))
 
-mul-depths : tie.Need-mul-depths Inv-loop μ-loop
-mul-depths c = omega (arith, parent-below (c .before), c .before .before .before .pre .0 .small)
+mul-tree : tie.Need-mul-tree Inv-loop μ-loop
+mul-tree c = omega (arith, parent-below (c .before), c .before .before .before .pre .0 .small)
 
-slice-read-depths : tie.Need-slice-read-depths Inv-loop μ-loop
-slice-read-depths c = omega (arith, parent-below (c .before .before))
+element-copy-out-tree : tie.Need-element-copy-out-tree Inv-loop μ-loop
+element-copy-out-tree c = omega (arith, parent-below (c .before), c .before .before .before .pre .0 .small)
 
-add-depths : tie.Need-add-depths Inv-loop μ-loop
-add-depths c = omega (arith, parent-fits _ _ _ _ (c .before .before .before .before .pre .0) (c .before .before .before .loop .inv), c .before .before .before .before .pre .0 .small)
+add-tree : tie.Need-add-tree Inv-loop μ-loop
+add-tree c = omega (arith, parent-fits _ (c .before .before .before .before .pre .0) _ _ _ (c .before .before .before .loop .inv), c .before .before .before .before .pre .0 .small)
 
-mul-depths-2 : tie.Need-mul-depths-2 Inv-loop μ-loop
-mul-depths-2 c = search needs
+mul-tree-2 : tie.Need-mul-tree-2 Inv-loop μ-loop
+mul-tree-2 c = search needs
 
-slice-write-depths-2 : tie.Need-slice-write-depths-2 Inv-loop μ-loop
-slice-write-depths-2 c = omega arith
+element-write-tree-2 : tie.Need-element-write-tree-2 Inv-loop μ-loop
+element-write-tree-2 c = search needs
 
 add-x : tie.Need-add-x Inv-loop μ-loop
 add-x c = search needs
 
 loop-less : tie.Need-loop-less Inv-loop μ-loop
-loop-less c = search needs
+loop-less c = omega arith
 
 loop-again : tie.Need-loop-again Inv-loop μ-loop
-loop-again c = depths-more _ _ _ _ (c .before .before .before .before .pre .0) (c .before .before .loop-test .taken) (c .before .before .before .loop .inv)
-
-same-length : tie.Need-same-length Inv-loop μ-loop
-same-length c = c .before .loop .inv .same ∙ simp length-set
+loop-again c = depths-more _ (c .before .before .before .before .pre .0) _ _ _ (c .before .before .before .loop .inv) (c .before .before .loop-test .taken)
 
 returns : tie.Need-returns Inv-loop μ-loop
-returns c = depths-all _ _ (c .before .before .args .depths .now) _ (c .before .before .pre .0) (c .loop-test .left) (c .before .loop .inv)
+returns c = (c .before .loop .inv .room, depths-all _ (c .before .before .pre .0) _ (c .before .before .args .tree .now) _ (c .loop-test .left) (c .before .loop .inv))
 
 pub set-depths-spec : {M : Type 1} → statement M
 set-depths-spec =
@@ -68,18 +65,17 @@ set-depths-spec =
     (tie.spec
     Inv-loop
     μ-loop
-    slice-write-depths
+    element-write-tree
     loop-holds
     mul-p
     shared-slice-read-p
     cast-p
-    mul-depths
-    slice-read-depths
-    add-depths
-    mul-depths-2
-    slice-write-depths-2
+    mul-tree
+    element-copy-out-tree
+    add-tree
+    mul-tree-2
+    element-write-tree-2
     add-x
     loop-less
     loop-again
-    same-length
     returns)

@@ -1,7 +1,9 @@
+-- `settle::settle_layouts` meets its contract: one law of the verdict at each refusal, and else the three results copied out of the tree array.
+use mathlib.Core.Path.{refl, ap, _∙_}
+use Rattle.model.specs.Answers.{settledAnswer}
+use Rattle.settle.specs.Checked.{checked-refused, checked-accepted, checked-tree}
+use Rattle.settle.proofs.Outcome.{short-depths, short-firsts, short-lasts, roomy, refused-as, settled-as}
 use borrow.Author.Needs.{needs}
-use mathlib.Core.Path.{refl}
-use Rattle.tree_laws.specs.WellFormed.{Tree, well-formed}
-use Rattle.settle.proofs.Outcome.{short-depths, short-firsts, short-lasts, too-many, no-layouts, wrong-layout, no-wrong, all-right, refused-as, settled-as}
 use Rattle.settle.proofs.settle_layouts.Statement.{statement}
 use Rattle.settle.proofs.settle_layouts.Tie as tie
 
@@ -15,65 +17,39 @@ refuse-requires-2 : tie.Need-refuse-requires-2
 refuse-requires-2 c κs = search needs
 
 returns-2 : tie.Need-returns-2
-returns-2 c =
-    refused-as _ _ _ _ _ _ 8 0 (short-firsts _ _ _ _ (c .before .before .if1 .left) (c .before .if2 .taken)) (c .refuse2 .ensures)
+returns-2 c = refused-as _ _ _ _ _ _ 8 0 (short-firsts _ _ _ _ (c .before .before .if1 .left) (c .before .if2 .taken)) (c .refuse2 .ensures)
 
 refuse-requires-3 : tie.Need-refuse-requires-3
 refuse-requires-3 c κs = search needs
 
 returns-3 : tie.Need-returns-3
-returns-3 c =
-    refused-as _ _ _ _ _ _ 8 0
-    (short-lasts _ _ _ _ (c .before .before .before .if1 .left) (c .before .before .if2 .left) (c .before .if3 .taken))
-    (c .refuse3 .ensures)
+returns-3 c = refused-as _ _ _ _ _ _ 8 0 (short-lasts _ _ _ _ (c .before .before .before .if1 .left) (c .before .before .if2 .left) (c .before .if3 .taken)) (c .refuse3 .ensures)
 
-refuse-requires-4 : tie.Need-refuse-requires-4
-refuse-requires-4 c κs = search needs
+check-layouts-requires : tie.Need-check-layouts-requires
+check-layouts-requires c κs = search needs
+
+enum-known-checked : tie.Need-enum-known-checked
+enum-known-checked c = search needs
 
 returns-4 : tie.Need-returns-4
 returns-4 c =
-    refused-as _ _ _ _ _ _ 3 0
-    (too-many _ _ _ _ (c .before .before .before .before .if1 .left) (c .before .before .before .if2 .left) (c .before .before .if3 .left) (c .before .if4 .taken))
-    (c .refuse4 .ensures)
+    let wrong = checked-refused (c .before .before .before .before .before .before .before .before .before .before .before .args .parents .now) _ (c .before .before .before .check-layouts .ensures) _ _ (ap settledAnswer (c .before .checked .given .1)) in
+    refused-as _ _ _ _ _ _ _ _ (roomy _ _ _ _ (c .before .before .before .before .before .before .if1 .left) (c .before .before .before .before .before .if2 .left) (c .before .before .before .before .if3 .left) ∙ wrong) refl
 
-refuse-requires-5 : tie.Need-refuse-requires-5
-refuse-requires-5 c κs = search needs
+enum-told : tie.Need-enum-told
+enum-told c = search needs
 
-returns-5 : tie.Need-returns-5
-returns-5 c =
-    refused-as _ _ _ _ _ _ 4 0
-    (no-layouts _ _ _ _ (c .before .before .before .before .before .if1 .left) (c .before .before .before .before .if2 .left) (c .before .before .before .if3 .left) (c .before .if5 .taken))
-    (c .refuse5 .ensures)
+settle-tree-requires : tie.Need-settle-tree-requires
+settle-tree-requires c κs = (checked-tree _ _ (c .before .before .before .check-layouts .ensures) (ap settledAnswer (c .before .enum-told .given .1)), refl)
 
-first-wrong-requires : tie.Need-first-wrong-requires
-first-wrong-requires c κs = search needs
+copy-out-requires : tie.Need-copy-out-requires
+copy-out-requires c κs = search needs
 
-cast-refuse : tie.Need-cast-refuse
-cast-refuse c = search needs
+copy-out-requires-2 : tie.Need-copy-out-requires-2
+copy-out-requires-2 c κs = search needs
 
-refuse-requires-6 : tie.Need-refuse-requires-6
-refuse-requires-6 c κs = search needs
-
-returns-6 : tie.Need-returns-6
-returns-6 c =
-    refused-as _ _ _ _ _ _ 4 _
-    (wrong-layout _ _ _ _ (c .before .before .before .before .before .before .before .if1 .left) (c .before .before .before .before .before .before .if2 .left) (c .before .before .before .before .before .if3 .left) (c .before .before .before .before .if4 .left) (c .before .before .before .if5 .left) _ (c .before .before .first-wrong .ensures) (c .before .if6 .taken))
-    (c .refuse6 .ensures)
-
--- past the last refusal the parents are a tree
-tree-of : (c : tie.Else6) → Tree (c .before .before .before .before .before .before .before .before .before .before .before .args .parents .now)
-tree-of c =
-    well-formed _
-    (no-wrong _ _ _ _ (c .before .before .before .before .before .before .if1 .left) (c .before .before .before .before .before .if2 .left) (c .before .before .before .before .if3 .left) (c .before .before .before .if4 .left) (c .before .before .if5 .left) _ (c .before .first-wrong .ensures) (c .if6 .left))
-    (c .before .before .before .if4 .left)
-
-set-depths-requires : tie.Need-set-depths-requires
-set-depths-requires c κs = (tree-of (c .before), c .before .before .before .before .before .before .before .if1 .left)
-
-set-leaves-requires : tie.Need-set-leaves-requires
-set-leaves-requires c κs =
-    let e = c .before .before .before .before .before .before in
-    (tree-of e, (e .before .before .before .before .before .if2 .left, e .before .before .before .before .if3 .left))
+copy-out-requires-3 : tie.Need-copy-out-requires-3
+copy-out-requires-3 c κs = search needs
 
 same-length : tie.Need-same-length
 same-length c = search needs
@@ -84,23 +60,17 @@ same-length-2 c = search needs
 same-length-3 : tie.Need-same-length-3
 same-length-3 c = search needs
 
-returns-7 : tie.Need-returns-7
-returns-7 c =
-    let e = c .before .before .before .before .before .before .before .before .before .before .before in
-    let depths = c .before .before .before .before .before .before .before .before .before .set-depths in
-    let leaves = c .before .before .before .before .set-leaves in
-    settled-as _ _ _ _ _ _ _ _ _
-    (all-right _ _ _ _ (e .before .before .before .before .before .before .if1 .left) (e .before .before .before .before .before .if2 .left) (e .before .before .before .before .if3 .left) (e .before .before .before .if4 .left) (e .before .before .if5 .left) _ (e .before .first-wrong .ensures) (e .if6 .left))
-    refl
-    (e .before .before .before .before .before .before .if1 .left)
-    (e .before .before .before .before .before .if2 .left)
-    (e .before .before .before .before .if3 .left)
-    (depths .kept .1 .0)
-    (leaves .kept .1 .0)
-    (leaves .kept .1 .1 .0)
-    (depths .ensures)
-    (leaves .ensures .0)
-    (leaves .ensures .1)
+returns-5 : tie.Need-returns-5
+returns-5 c =
+    let start = c .before .before .before .before .before .before .before .before .before .before .before .before .before .before .before .before .before .before .before .before .before .before .before .before .before .before .before in
+    let depths-room = c .before .before .before .before .before .before .before .before .before .before .before .before .before .before .before .before .before .before .before .before .before .before .if1 .left in
+    let firsts-room = c .before .before .before .before .before .before .before .before .before .before .before .before .before .before .before .before .before .before .before .before .before .if2 .left in
+    let lasts-room = c .before .before .before .before .before .before .before .before .before .before .before .before .before .before .before .before .before .before .before .before .if3 .left in
+    let right = checked-accepted (start .args .parents .now) _ (c .before .before .before .before .before .before .before .before .before .before .before .before .before .before .before .before .before .before .before .check-layouts .ensures) (ap settledAnswer (c .before .before .before .before .before .before .before .before .before .before .before .before .before .before .before .before .before .enum-told .given .1)) in
+    let depths = c .before .before .before .before .before .before .before .before .before .before .before .before .copy-out in
+    let firsts = c .before .before .before .before .before .before .before .copy-out2 in
+    let lasts = c .before .before .copy-out3 in
+    settled-as _ _ _ _ _ _ (roomy _ _ _ _ depths-room firsts-room lasts-room ∙ right) refl _ (c .before .before .before .before .before .before .before .before .before .before .before .before .before .before .before .settle-tree .ensures) _ _ _ depths-room firsts-room lasts-room (depths .kept .1 .1 .1 .0) (firsts .kept .1 .1 .1 .0) (lasts .kept .1 .1 .1 .0) (depths .ensures) (firsts .ensures) (lasts .ensures)
 
 pub settle-layouts-spec : {M : Type 1} → statement M
 settle-layouts-spec =
@@ -112,17 +82,15 @@ settle-layouts-spec =
     returns-2
     refuse-requires-3
     returns-3
-    refuse-requires-4
+    check-layouts-requires
+    enum-known-checked
     returns-4
-    refuse-requires-5
-    returns-5
-    first-wrong-requires
-    cast-refuse
-    refuse-requires-6
-    returns-6
-    set-depths-requires
-    set-leaves-requires
+    enum-told
+    settle-tree-requires
+    copy-out-requires
+    copy-out-requires-2
+    copy-out-requires-3
     same-length
     same-length-2
     same-length-3
-    returns-7)
+    returns-5)

@@ -1,7 +1,6 @@
 -- `table::clear` meets its contract: each buffer is filled.
--- Assumes nothing.
 use borrow.Author.Needs.{needs}
-use Rattle.table.proofs.Cells.{filled-unused}
+use Rattle.table.specs.Whole.{filled-unused}
 use Rattle.table.proofs.clear.Statement.{statement}
 use Rattle.table.proofs.clear.Tie as tie
 
@@ -33,10 +32,10 @@ returns : tie.Need-returns
 returns c =
     let a = c .before .before .before .before .before .before .before .before .before .before .before .before .before .before .before .before .before .before .before .before .args in
     record {
-      parents-clear = filled-unused 65535 _ (a .parents .now) (c .before .before .before .before .before .before .before .before .before .before .before .before .before .before .fill .ensures);
-      tops-clear = filled-unused 65535 _ (a .tops .now) (c .before .before .before .before .before .before .before .before .before .before .fill2 .ensures);
-      bottoms-clear = filled-unused 65535 _ (a .bottoms .now) (c .before .before .before .before .before .before .fill3 .ensures);
-      marks-clear = filled-unused 0 _ (a .marks .now) (c .before .before .clear-marks .ensures);
+      parents-spare = filled-unused 65535 _ (a .parents .now) (c .before .before .before .before .before .before .before .before .before .before .before .before .before .before .fill .ensures);
+      tops-spare = filled-unused 65535 _ (a .tops .now) (c .before .before .before .before .before .before .before .before .before .before .fill2 .ensures);
+      bottoms-spare = filled-unused 65535 _ (a .bottoms .now) (c .before .before .before .before .before .before .fill3 .ensures);
+      marks-spare = filled-unused 0 _ (a .marks .now) (c .before .before .clear-marks .ensures);
     }
 
 pub clear-spec : {M : Type 1} → statement M

@@ -1,5 +1,4 @@
 -- `table::long_enough` meets its contract: its tests are those of the verdict.
--- Assumes nothing.
 use Prim.Native.Nat.{ℕ}
 use mathlib.Core.Path.{_≡_, refl}
 use mathlib.Core.Bool.{Bool, true, false, not}

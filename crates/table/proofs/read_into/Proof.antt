@@ -1,71 +1,19 @@
 -- `table::read_into` meets its contract: what the lines come to, and clear buffers after a refusal.
--- Assumes nothing.
 use mathlib.Core.Path.{subst, _∙_}
-use borrow.Author.Needs.{needs}
 use Rattle.model.specs.Table.{readTable}
-use Rattle.table.specs.Steps.{LinesOutcome}
-use Rattle.table.proofs.Whole.{Kept, all-read, line-refused}
+use Rattle.table.specs.Whole.{LinesOutcome, cleared-ready, all-read, line-refused}
+use borrow.Author.Needs.{needs}
 use Rattle.table.proofs.read_into.Statement.{statement}
 use Rattle.table.proofs.read_into.Tie as tie
-
--- the buffers are as long as they were, once the lines are read
-kept : (c : tie.After-read-lines)
-    → let a = c .before .before .before .before .before .before .before .before .before .before .before .before .before .before .before .before .before .before .before .before .before .before .before .before .before .before .args in
-    let l = c .read-lines .last in
-    Kept (a .parents .now) (a .tops .now) (a .bottoms .now) (a .marks .now) (l .1 .0) (l .1 .1 .0) (l .1 .1 .1 .0) (l .1 .1 .1 .1 .0)
-kept c =
-    let cleared = c .before .before .before .before .before .before .before .before .before .before .before .before .before .before .before .before .clear .kept in
-    let lines = c .read-lines .kept in
-    record {
-      parents-kept = lines .1 .0 ∙ cleared .0;
-      tops-kept = lines .1 .1 .0 ∙ cleared .1 .0;
-      bottoms-kept = lines .1 .1 .1 .0 ∙ cleared .1 .1 .0;
-      marks-kept = lines .1 .1 .1 .1 .0 ∙ cleared .1 .1 .1 .0;
-    }
-
--- and once they are cleared after a refusal
-kept-clear : (c : tie.After-clear2)
-    → let a = c .before .before .before .before .before .before .before .before .before .before .before .before .before .before .before .before .before .before .before .before .before .before .before .before .before .before .before .before .before .before .before .before .before .before .before .before .before .before .before .before .before .before .before .before .before .args in
-    let l = c .clear2 .last in
-    Kept (a .parents .now) (a .tops .now) (a .bottoms .now) (a .marks .now) (l .0) (l .1 .0) (l .1 .1 .0) (l .1 .1 .1 .0)
-kept-clear c =
-    let k = c .clear2 .kept in
-    let e = kept (c .before .before .before .before .before .before .before .before .before .before .before .before .before .before .before .before .before .before .before) in
-    record {
-      parents-kept = k .0 ∙ e .parents-kept;
-      tops-kept = k .1 .0 ∙ e .tops-kept;
-      bottoms-kept = k .1 .1 .0 ∙ e .bottoms-kept;
-      marks-kept = k .1 .1 .1 .0 ∙ e .marks-kept;
-    }
 
 clear-requires : tie.Need-clear-requires
 clear-requires c κs = search needs
 
-slice-aggregate-read-lines : tie.Need-slice-aggregate-read-lines
-slice-aggregate-read-lines c = search needs
-
-slice-aggregate-read-lines-2 : tie.Need-slice-aggregate-read-lines-2
-slice-aggregate-read-lines-2 c = search needs
-
-slice-aggregate-read-lines-3 : tie.Need-slice-aggregate-read-lines-3
-slice-aggregate-read-lines-3 c = search needs
-
 read-lines-requires : tie.Need-read-lines-requires
 read-lines-requires c κs =
-    let long = c .before .before .before .before .before .before .before .before .before .before .before .before .before .before .before .before .before .before .before .before .before .before .before .before .before .pre in
-    let cleared = c .before .before .before .before .before .before .before .before .before .before .before .before .before .before .before .clear in
-    let k = cleared .kept in (
-      record {
-        long = record {
-          parents-long = rw (k .0) (long .parents-long);
-          tops-long = rw (k .1 .0) (long .tops-long);
-          bottoms-long = rw (k .1 .1 .0) (long .bottoms-long);
-          marks-long = rw (k .1 .1 .1 .0) (long .marks-long);
-        };
-        clear = cleared .ensures;
-      },
-      record { depths-room = search needs; firsts-room = search needs; lasts-room = search needs },
-    )
+    let e = c .before .before .before .before .before .before .before .before .before .before .before .before .before .clear in
+    let k = e .kept in
+    (cleared-ready _ _ _ _ _ _ _ _ _ (c .before .before .before .before .before .before .before .before .before .before .before .before .before .before .before .before .before .before .before .before .before .before .before .pre) (record { parents-kept = k .0; tops-kept = k .1 .0; bottoms-kept = k .1 .1 .0; marks-kept = k .1 .1 .1 .0 }) (e .ensures), search needs)
 
 enum-known-answer : tie.Need-enum-known-answer
 enum-known-answer c = search needs
@@ -90,46 +38,45 @@ same-length-4 c = search needs
 
 returns : tie.Need-returns
 returns c =
-    let e = c .before .before .before .before .before .before .before .before .before .before .before .before .before .before in
-    let a = e .before .before .before .before .before .before .before .before .before .before .before .before .before .before .before .before .before .before .before .before .before .before .before .before .before .before .args in
-    let l = e .read-lines .last .1 in
-    all-read (readTable (a .bytes .now)) (a .parents .now) (a .tops .now) (a .bottoms .now) (a .marks .now)
-    (l .0) (l .1 .0) (l .1 .1 .0) (l .1 .1 .1 .0) (l .1 .1 .1 .1 .0) (l .1 .1 .1 .1 .1 .0) (l .1 .1 .1 .1 .1 .1 .0) (c .before .answer .given .0 .0)
-    (subst (LinesOutcome (readTable (a .bytes .now)) (l .0) (l .1 .0) (l .1 .1 .0) (l .1 .1 .1 .0) (l .1 .1 .1 .1 .0) (l .1 .1 .1 .1 .1 .0) (l .1 .1 .1 .1 .1 .1 .0)) (c .before .answer .given .1) (e .read-lines .ensures))
-    (kept e)
+    let e = c .before .before .before .before .before .before .before .before .before .before .before .read-lines in
+    let a = c .before .before .before .before .before .before .before .before .before .before .before .before .before .before .before .before .before .before .before .before .before .before .before .before .before .before .before .before .before .before .before .before .before .before .before .args in
+    let l = e .kept in
+    let k = c .before .before .before .before .before .before .before .before .before .before .before .before .before .before .before .before .before .before .before .before .before .before .before .before .before .clear .kept in
+    let v = e .last .1 in
+    all-read (readTable (a .bytes .now)) (a .parents .now) (a .tops .now) (a .bottoms .now) (a .marks .now) (v .0) (v .1 .0) (v .1 .1 .0) (v .1 .1 .1 .0) (v .1 .1 .1 .1 .0) (c .before .answer .given .0 .0)
+    (subst (LinesOutcome (readTable (a .bytes .now)) (v .0) (v .1 .0) (v .1 .1 .0) (v .1 .1 .1 .0) (v .1 .1 .1 .1 .0)) (c .before .answer .given .1) (e .ensures))
+    (record { parents-kept = l .1 .0 ∙ k .0; tops-kept = l .1 .1 .0 ∙ k .1 .0; bottoms-kept = l .1 .1 .1 .0 ∙ k .1 .1 .0; marks-kept = l .1 .1 .1 .1 .0 ∙ k .1 .1 .1 .0 })
 
 same-length-5 : tie.Need-same-length-5
-same-length-5 c = kept-clear (c .before .before .before .before .before .before .before .before) .parents-kept
+same-length-5 c = search needs
 
 same-length-6 : tie.Need-same-length-6
-same-length-6 c = kept-clear (c .before .before .before .before .before .before .before .before) .tops-kept
+same-length-6 c = search needs
 
 same-length-7 : tie.Need-same-length-7
-same-length-7 c = kept-clear (c .before .before .before .before .before .before .before .before) .bottoms-kept
+same-length-7 c = search needs
 
 same-length-8 : tie.Need-same-length-8
-same-length-8 c = kept-clear (c .before .before .before .before .before .before .before .before) .marks-kept
+same-length-8 c = search needs
 
 returns-2 : tie.Need-returns-2
 returns-2 c =
-    let e = c .before .before .before .before .before .before .before .before .before .before .before .before .before .before .before .before .before .before .before .before .before .before .before .before .before .before .before in
-    let a = e .before .before .before .before .before .before .before .before .before .before .before .before .before .before .before .before .before .before .before .before .before .before .before .before .before .before .args in
-    let l = e .read-lines .last .1 in
-    let refusal = c .before .before .before .before .before .before .before .before .before .before .before .before .before .before .answer2 .given in
-    let d = c .before .before .before .before .before .before .before .before .clear2 in
-    line-refused (readTable (a .bytes .now)) (a .parents .now) (a .tops .now) (a .bottoms .now) (a .marks .now)
-    (d .last .0) (d .last .1 .0) (d .last .1 .1 .0) (d .last .1 .1 .1 .0) (refusal .0 .0)
-    (subst (LinesOutcome (readTable (a .bytes .now)) (l .0) (l .1 .0) (l .1 .1 .0) (l .1 .1 .1 .0) (l .1 .1 .1 .1 .0) (l .1 .1 .1 .1 .1 .0) (l .1 .1 .1 .1 .1 .1 .0)) (refusal .1) (e .read-lines .ensures))
-    (d .ensures) (kept-clear (c .before .before .before .before .before .before .before .before))
+    let e = c .before .before .before .before .before .before .before .before .before .before .before .before .before .before .before .before .before .before .before .before .before .before .before .before .read-lines in
+    let a = c .before .before .before .before .before .before .before .before .before .before .before .before .before .before .before .before .before .before .before .before .before .before .before .before .before .before .before .before .before .before .before .before .before .before .before .before .before .before .before .before .before .before .before .before .before .before .before .before .args in
+    let l = e .kept in
+    let k = c .before .before .before .before .before .before .before .before .before .before .before .before .before .before .before .before .before .before .before .before .before .before .before .before .before .before .before .before .before .before .before .before .before .before .before .before .before .before .clear .kept in
+    let m = c .before .before .before .before .before .before .before .before .clear2 .kept in
+    let v = e .last .1 in
+    line-refused (readTable (a .bytes .now)) (a .parents .now) (a .tops .now) (a .bottoms .now) (a .marks .now) _ _ _ _ (c .before .before .before .before .before .before .before .before .before .before .before .before .before .before .answer2 .given .0 .0)
+    (subst (LinesOutcome (readTable (a .bytes .now)) (v .0) (v .1 .0) (v .1 .1 .0) (v .1 .1 .1 .0) (v .1 .1 .1 .1 .0)) (c .before .before .before .before .before .before .before .before .before .before .before .before .before .before .answer2 .given .1) (e .ensures))
+    (c .before .before .before .before .before .before .before .before .clear2 .ensures)
+    (record { parents-kept = m .0 ∙ l .1 .0 ∙ k .0; tops-kept = m .1 .0 ∙ l .1 .1 .0 ∙ k .1 .0; bottoms-kept = m .1 .1 .0 ∙ l .1 .1 .1 .0 ∙ k .1 .1 .0; marks-kept = m .1 .1 .1 .0 ∙ l .1 .1 .1 .1 .0 ∙ k .1 .1 .1 .0 })
 
 pub read-into-spec : {M : Type 1} → statement M
 read-into-spec =
     tie.close
     (tie.spec
     clear-requires
-    slice-aggregate-read-lines
-    slice-aggregate-read-lines-2
-    slice-aggregate-read-lines-3
     read-lines-requires
     enum-known-answer
     enum-known-answer-2

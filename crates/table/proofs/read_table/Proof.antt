@@ -1,11 +1,10 @@
 -- `table::read_table` meets its contract: refusal 8 by the sizes, or what is read into the buffers.
--- Assumes nothing.
 use mathlib.Core.Path.{_≡_, _∙_}
 use lib.ListN.{length}
 use borrow.Author.Needs.{needs}
 use Rattle.model.specs.Verdict.{accepted}
 use Rattle.model.specs.Table.{readTable, buffersVerdict}
-use Rattle.table.proofs.Whole.{sizes-accepted, sizes-refused}
+use Rattle.table.specs.Whole.{sizes-accepted, sizes-refused}
 use Rattle.table.proofs.read_table.Statement.{statement}
 use Rattle.table.proofs.read_table.Tie as tie
 

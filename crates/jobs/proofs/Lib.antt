@@ -1,0 +1,2 @@
+-- Laws that the proofs of checking the jobs cite.
+pub mod JobVerdicts

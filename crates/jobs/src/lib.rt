@@ -1,0 +1,59 @@
+// Whether the jobs of a settled tree can be planned (document 01, "What each operation turns away", refusals 5 and 6).
+use model::LayoutNumber;
+use model::Refusal;
+use settle::TREE;
+ghost use Prim.Native.Nat.{_≤_};
+ghost use mathlib.Core.Path.{_≡_};
+ghost use lib.ListN.{length};
+ghost use Rattle.model.specs.Tree.{layoutLimit};
+ghost use Rattle.model.specs.Jobs.{jobLimit};
+ghost use Rattle.jobs.specs.Checks.{JobChecked, JobsChecked};
+
+// What checking the jobs answers: all are right, or the refusal of the smallest wrong one.
+pub enum JobCheck {
+    Right,
+    Wrong(Refusal),
+}
+
+// The number of one job's refusal: 5, a top or bottom that is no layout; 6, a bottom not at or below its top; 0 for none.
+fn check_job(tree: &[u16; TREE], layouts: usize, top: LayoutNumber, bottom: LayoutNumber) -> u16
+    requires { ⌜ layouts ≤ layoutLimit ⌝ }
+    ensures { λ r. ⌜ JobChecked layouts (top .0) (bottom .0) (now (tree .entry)) r ⌝ }
+{
+    if layouts <= top.0 as usize {
+        return 5;
+    }
+    if layouts <= bottom.0 as usize {
+        return 5;
+    }
+    if settle::is_ancestor(tree, top, bottom) {
+        return 0;
+    }
+    6
+}
+
+// Checks the jobs by number, the smallest first.
+pub fn check_jobs(tree: &[u16; TREE], layouts: usize, tops: &[u16], bottoms: &[u16]) -> JobCheck
+    requires { ⌜ layouts ≤ layoutLimit ⌝ }
+    requires { ⌜ length (now tops) ≤ jobLimit ⌝ }
+    requires { ⌜ length (now bottoms) ≡ length (now tops) ⌝ }
+    ensures { λ r. ⌜ JobsChecked layouts (now (tops .entry)) (now (bottoms .entry)) (now (tree .entry)) r ⌝ }
+{
+    let mut j = 0;
+    while j < tops.len() {
+        let number = check_job(
+            tree,
+            layouts,
+            LayoutNumber(tops[j]),
+            LayoutNumber(bottoms[j]),
+        );
+        if number != 0 {
+            return JobCheck::Wrong(Refusal {
+                number,
+                place: j as u16,
+            });
+        }
+        j += 1;
+    }
+    JobCheck::Right
+}

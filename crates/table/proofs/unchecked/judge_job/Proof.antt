@@ -1,0 +1,24 @@
+-- `table::unchecked::judge_job` meets its contract: each test makes its verdict.
+use mathlib.Core.Path.{sym, _∙_}
+use Rattle.table.specs.Lines.{job-early, job-beyond, job-right}
+use borrow.Author.Needs.{needs}
+use Rattle.table.proofs.unchecked.judge_job.Statement.{statement}
+use Rattle.table.proofs.unchecked.judge_job.Tie as tie
+
+refuse-requires : tie.Need-refuse-requires
+refuse-requires c κs = search needs
+
+returns : tie.Need-returns
+returns c = λ tb n m. let a = c .before .before .before .args in rw (c .refuse .ensures) (job-early _ tb (a .top .0) (a .bottom .0) (a .mark) (n ∙ c .before .if1 .taken))
+
+refuse-requires-2 : tie.Need-refuse-requires-2
+refuse-requires-2 c κs = search needs
+
+returns-2 : tie.Need-returns-2
+returns-2 c = λ tb n m. let a = c .before .before .before .before .before .args in rw (c .refuse2 .ensures) (job-beyond _ tb (a .top .0) (a .bottom .0) (a .mark) (λ e. c .before .before .before .if1 .left (sym n ∙ e)) (rw m (c .before .if2 .taken)))
+
+returns-3 : tie.Need-returns-3
+returns-3 c = λ tb n m. job-right _ tb _ _ _ (c .before .before .before .before .pre .1) (λ e. c .before .before .if1 .left (sym n ∙ e)) (rw m (c .if2 .left))
+
+pub judge-job-spec : {M : Type 1} → statement M
+judge-job-spec = tie.close (tie.spec refuse-requires returns refuse-requires-2 returns-2 returns-3)

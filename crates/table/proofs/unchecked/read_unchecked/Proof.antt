@@ -1,0 +1,255 @@
+-- `table::unchecked::read_unchecked` meets its contract: each line makes its step, and the cells hold what was read so far.
+use Prim.Native.Nat.{ℕ, _+_, _-_}
+use mathlib.Core.Path.{_≡_, refl, subst, _∙_}
+use mathlib.Core.List.{List}
+use lib.ListN.{length, length-set}
+use lib.Seq.{length-take-le}
+use Rattle.frame.specs.Fields.{DigitValues}
+use Rattle.table.specs.Steps.{StepOutcome, LayoutLine, JobLine, EndLine, Roomy, BuffersReady, held, endedAt, SoFar}
+use Rattle.table.specs.Held.{so-far-none, layout-room, so-far-layout, top-room, bottom-room, mark-room, so-far-job, so-far-end, read-stopped, read-last}
+use borrow.Author.Needs.{needs}
+use native.Mathlib.Omega.{arith}
+use Rattle.table.proofs.unchecked.read_unchecked.Statement.{statement}
+use Rattle.table.proofs.unchecked.read_unchecked.Tie as tie
+use Rattle.frame.proofs.digit_values.Reads as digit-values-reads
+
+-- the cells keep their lengths and hold what was read so far
+record Reading (bytes parents₀ tops₀ bottoms₀ marks₀ digits parents tops bottoms marks : List ℕ) (at layouts jobs ends : ℕ) : Type 0 where
+  ready : BuffersReady bytes parents₀ tops₀ bottoms₀ marks₀
+  values : DigitValues digits
+  parents-same : length parents ≡ length parents₀
+  tops-same : length tops ≡ length tops₀
+  bottoms-same : length bottoms ≡ length bottoms₀
+  marks-same : length marks ≡ length marks₀
+  so-far : SoFar bytes parents tops bottoms marks at layouts jobs ends
+
+-- room is a matter of length
+roomy : {bytes ps ts bs ms ps′ ts′ bs′ ms′ : List ℕ} → length ps′ ≡ length ps → length ts′ ≡ length ts → length bs′ ≡ length bs → length ms′ ≡ length ms → Roomy bytes ps ts bs ms → Roomy bytes ps′ ts′ bs′ ms′
+roomy p t b m r =
+    record {
+      parents-room = rw p (r .parents-room);
+      tops-room = λ k l h. rw t (r .tops-room k l h);
+      bottoms-room = λ k l h. rw b (r .bottoms-room k l h);
+      marks-room = λ k l h. rw m (r .marks-room k l h);
+    }
+
+abbrev Inv-loop : tie.InvT-loop
+Inv-loop bytes parents₀ tops₀ bottoms₀ marks₀ digits at₀ layouts₀ jobs₀ ends₀ parents tops bottoms marks at layouts jobs ends =
+    Reading bytes parents₀ tops₀ bottoms₀ marks₀ digits parents tops bottoms marks at layouts jobs ends
+
+abbrev μ-loop : tie.MeasureT-loop
+μ-loop bytes parents₀ tops₀ bottoms₀ marks₀ digits at₀ layouts₀ jobs₀ ends₀ parents tops bottoms marks at layouts jobs ends = length bytes - at
+
+-- the step at hand, for the table in the cells
+step-at : (c : tie.After-next-step Inv-loop μ-loop)
+    → let l = c .before .before .before .loop in
+    StepOutcome (c .before .before .before .before .before .before .before .before .before .before .args .bytes .now) (l .at) (l .layouts + l .jobs + l .ends + 1) (held (l .parents) (l .tops) (l .bottoms) (l .marks) (l .layouts) (l .jobs)) (endedAt (l .ends)) (c .next-step .result)
+step-at c =
+    let l = c .before .before .before .loop in
+    let s = l .inv .so-far in
+    c .next-step .ensures (held (l .parents) (l .tops) (l .bottoms) (l .marks) (l .layouts) (l .jobs)) (length-take-le (l .layouts) (l .parents) (s .holds .parents-hold)) (length-take-le (l .jobs) (l .tops) (s .holds .tops-hold))
+
+-- it is a layout, a job, the end or a refusal
+layout : (c : tie.After-known-told Inv-loop μ-loop)
+    → let l = c .before .before .before .before .before .before .loop in
+    LayoutLine (c .before .before .before .before .before .before .before .before .before .before .before .before .before .args .bytes .now) (l .at) (l .layouts + l .jobs + l .ends + 1) (held (l .parents) (l .tops) (l .bottoms) (l .marks) (l .layouts) (l .jobs)) (endedAt (l .ends)) (c .before .step .given .0 .0 .0)
+layout c =
+    let l = c .before .before .before .before .before .before .loop in
+    subst (StepOutcome (c .before .before .before .before .before .before .before .before .before .before .before .before .before .args .bytes .now) (l .at) (l .layouts + l .jobs + l .ends + 1) (held (l .parents) (l .tops) (l .bottoms) (l .marks) (l .layouts) (l .jobs)) (endedAt (l .ends))) (c .before .step .given .1) (step-at (c .before .before .before))
+
+job : (c : tie.After-known-told2 Inv-loop μ-loop)
+    → let l = c .before .before .before .before .before .before .loop in
+    let g = c .before .step2 .given .0 in
+    JobLine (c .before .before .before .before .before .before .before .before .before .before .before .before .before .args .bytes .now) (l .at) (l .layouts + l .jobs + l .ends + 1) (held (l .parents) (l .tops) (l .bottoms) (l .marks) (l .layouts) (l .jobs)) (endedAt (l .ends)) (g .0 .0) (g .1 .0 .0) (g .1 .1 .0)
+job c =
+    let l = c .before .before .before .before .before .before .loop in
+    subst (StepOutcome (c .before .before .before .before .before .before .before .before .before .before .before .before .before .args .bytes .now) (l .at) (l .layouts + l .jobs + l .ends + 1) (held (l .parents) (l .tops) (l .bottoms) (l .marks) (l .layouts) (l .jobs)) (endedAt (l .ends))) (c .before .step2 .given .1) (step-at (c .before .before .before))
+
+end : (c : tie.After-enum-told Inv-loop μ-loop)
+    → let l = c .before .before .before .before .before .loop in
+    EndLine (c .before .before .before .before .before .before .before .before .before .before .before .before .args .bytes .now) (l .at) (l .layouts + l .jobs + l .ends + 1) (held (l .parents) (l .tops) (l .bottoms) (l .marks) (l .layouts) (l .jobs)) (endedAt (l .ends))
+end c =
+    let l = c .before .before .before .before .before .loop in
+    subst (StepOutcome (c .before .before .before .before .before .before .before .before .before .before .before .before .args .bytes .now) (l .at) (l .layouts + l .jobs + l .ends + 1) (held (l .parents) (l .tops) (l .bottoms) (l .marks) (l .layouts) (l .jobs)) (endedAt (l .ends))) (c .enum-told .given .1) (step-at (c .before .before))
+
+digit-values-requires : tie.Need-digit-values-requires Inv-loop μ-loop
+digit-values-requires c κs = search needs
+
+loop-holds : tie.Need-loop-holds Inv-loop μ-loop
+loop-holds c = record { ready = c .before .before .before .before .before .before .pre; values = c .digit-values .ensures; parents-same = refl; tops-same = refl; bottoms-same = refl; marks-same = refl; so-far = so-far-none _ _ _ _ _ (c .before .before .before .before .before .before .pre) }
+
+next-step-requires : tie.Need-next-step-requires Inv-loop μ-loop
+next-step-requires c κs = let s = c .before .before .loop .inv .so-far in (c .before .before .loop .inv .values, (record { few-layouts = s .holds .few-layouts; few-jobs = s .holds .few-jobs; few-ends = s .one-end }, c .before .loop-test .taken))
+
+enum-known-step : tie.Need-enum-known-step Inv-loop μ-loop
+enum-known-step c = search needs
+
+mul-parents : tie.Need-mul-parents Inv-loop μ-loop
+mul-parents c = search needs
+
+slice-write-parents : tie.Need-slice-write-parents Inv-loop μ-loop
+slice-write-parents c =
+    let l = c .before .before .before .before .before .before .loop in
+    let b = c .before .before .before .before .before .before .before .before .before .before .before .before .before .args .bytes .now in
+    let i = l .inv in
+    layout-room b (l .parents) (l .tops) (l .bottoms) (l .marks) (l .at) (l .layouts) (l .jobs) (l .ends) (i .so-far) _ (layout c) (omega (arith, i .ready .room .parents-room, i .parents-same))
+
+add-layouts : tie.Need-add-layouts Inv-loop μ-loop
+add-layouts c = search needs
+
+add-at : tie.Need-add-at Inv-loop μ-loop
+add-at c = search needs
+
+loop-less : tie.Need-loop-less Inv-loop μ-loop
+loop-less c = let line = layout c in omega arith
+
+loop-again : tie.Need-loop-again Inv-loop μ-loop
+loop-again c =
+    let l = c .before .before .before .before .before .before .loop in
+    let b = c .before .before .before .before .before .before .before .before .before .before .before .before .before .args .bytes .now in
+    let i = l .inv in
+    record { ready = i .ready; values = i .values; parents-same = simp length-set (i .parents-same); tops-same = i .tops-same; bottoms-same = i .bottoms-same; marks-same = i .marks-same; so-far = so-far-layout b (l .parents) (l .tops) (l .bottoms) (l .marks) (l .at) (l .layouts) (l .jobs) (l .ends) (i .so-far) _ (layout c) (omega (arith, i .ready .room .parents-room, i .parents-same)) }
+
+enum-known-step-2 : tie.Need-enum-known-step-2 Inv-loop μ-loop
+enum-known-step-2 c = search needs
+
+mul-tops : tie.Need-mul-tops Inv-loop μ-loop
+mul-tops c = search needs
+
+slice-write-tops : tie.Need-slice-write-tops Inv-loop μ-loop
+slice-write-tops c =
+    let l = c .before .before .before .before .before .before .loop in
+    let b = c .before .before .before .before .before .before .before .before .before .before .before .before .before .args .bytes .now in
+    let i = l .inv in
+    top-room b (l .parents) (l .tops) (l .bottoms) (l .marks) (l .at) (l .layouts) (l .jobs) (l .ends) (i .so-far) (c .before .step2 .given .0 .0 .0) (c .before .step2 .given .0 .1 .0 .0) (c .before .step2 .given .0 .1 .1 .0) (job c) (roomy (i .parents-same) (i .tops-same) (i .bottoms-same) (i .marks-same) (i .ready .room))
+
+mul-bottoms : tie.Need-mul-bottoms Inv-loop μ-loop
+mul-bottoms c = search needs
+
+slice-write-bottoms : tie.Need-slice-write-bottoms Inv-loop μ-loop
+slice-write-bottoms c =
+    let l = c .before .before .before .before .before .before .loop in
+    let b = c .before .before .before .before .before .before .before .before .before .before .before .before .before .args .bytes .now in
+    let i = l .inv in
+    bottom-room b (l .parents) (l .tops) (l .bottoms) (l .marks) (l .at) (l .layouts) (l .jobs) (l .ends) (i .so-far) (c .before .step2 .given .0 .0 .0) (c .before .step2 .given .0 .1 .0 .0) (c .before .step2 .given .0 .1 .1 .0) (job c) (roomy (i .parents-same) (i .tops-same) (i .bottoms-same) (i .marks-same) (i .ready .room))
+
+slice-write-marks : tie.Need-slice-write-marks Inv-loop μ-loop
+slice-write-marks c =
+    let l = c .before .before .before .before .before .before .loop in
+    let b = c .before .before .before .before .before .before .before .before .before .before .before .before .before .args .bytes .now in
+    let i = l .inv in
+    mark-room b (l .parents) (l .tops) (l .bottoms) (l .marks) (l .at) (l .layouts) (l .jobs) (l .ends) (i .so-far) (c .before .step2 .given .0 .0 .0) (c .before .step2 .given .0 .1 .0 .0) (c .before .step2 .given .0 .1 .1 .0) (job c) (roomy (i .parents-same) (i .tops-same) (i .bottoms-same) (i .marks-same) (i .ready .room))
+
+add-jobs : tie.Need-add-jobs Inv-loop μ-loop
+add-jobs c = search needs
+
+add-at-2 : tie.Need-add-at-2 Inv-loop μ-loop
+add-at-2 c = search needs
+
+loop-less-2 : tie.Need-loop-less-2 Inv-loop μ-loop
+loop-less-2 c = let line = job c in omega arith
+
+loop-again-2 : tie.Need-loop-again-2 Inv-loop μ-loop
+loop-again-2 c =
+    let l = c .before .before .before .before .before .before .loop in
+    let b = c .before .before .before .before .before .before .before .before .before .before .before .before .before .args .bytes .now in
+    let i = l .inv in
+    record { ready = i .ready; values = i .values; parents-same = i .parents-same; tops-same = simp length-set (i .tops-same); bottoms-same = simp length-set (i .bottoms-same); marks-same = simp length-set (i .marks-same); so-far = so-far-job b (l .parents) (l .tops) (l .bottoms) (l .marks) (l .at) (l .layouts) (l .jobs) (l .ends) (i .so-far) (c .before .step2 .given .0 .0 .0) (c .before .step2 .given .0 .1 .0 .0) (c .before .step2 .given .0 .1 .1 .0) (job c) (roomy (i .parents-same) (i .tops-same) (i .bottoms-same) (i .marks-same) (i .ready .room)) }
+
+enum-told : tie.Need-enum-told Inv-loop μ-loop
+enum-told c = search needs
+
+add-at-3 : tie.Need-add-at-3 Inv-loop μ-loop
+add-at-3 c = search needs
+
+loop-less-3 : tie.Need-loop-less-3 Inv-loop μ-loop
+loop-less-3 c = let line = end c in omega arith
+
+loop-again-3 : tie.Need-loop-again-3 Inv-loop μ-loop
+loop-again-3 c =
+    let l = c .before .before .before .before .before .loop in
+    let i = l .inv in
+    record { ready = i .ready; values = i .values; parents-same = i .parents-same; tops-same = i .tops-same; bottoms-same = i .bottoms-same; marks-same = i .marks-same; so-far = so-far-end _ _ _ _ _ _ _ _ _ (i .so-far) (end c) }
+
+enum-known-step-3 : tie.Need-enum-known-step-3 Inv-loop μ-loop
+enum-known-step-3 c = search needs
+
+same-length : tie.Need-same-length Inv-loop μ-loop
+same-length c = search needs
+
+same-length-2 : tie.Need-same-length-2 Inv-loop μ-loop
+same-length-2 c = search needs
+
+same-length-3 : tie.Need-same-length-3 Inv-loop μ-loop
+same-length-3 c = search needs
+
+same-length-4 : tie.Need-same-length-4 Inv-loop μ-loop
+same-length-4 c = search needs
+
+returns : tie.Need-returns Inv-loop μ-loop
+returns c =
+    let l = c .before .before .before .before .before .before .loop in
+    let b = c .before .before .before .before .before .before .before .before .before .before .before .before .before .args .bytes .now in
+    let i = l .inv in
+    read-stopped b (l .parents) (l .tops) (l .bottoms) (l .marks) (l .at) (l .layouts) (l .jobs) (l .ends) (i .so-far) _ (subst (StepOutcome b (l .at) (l .layouts + l .jobs + l .ends + 1) (held (l .parents) (l .tops) (l .bottoms) (l .marks) (l .layouts) (l .jobs)) (endedAt (l .ends))) (c .before .step3 .given .1) (step-at (c .before .before .before)))
+
+at-last-requires : tie.Need-at-last-requires Inv-loop μ-loop
+at-last-requires c κs = let s = c .before .loop .inv .so-far in record { few-layouts = s .holds .few-layouts; few-jobs = s .holds .few-jobs; few-ends = s .one-end }
+
+same-length-5 : tie.Need-same-length-5 Inv-loop μ-loop
+same-length-5 c = search needs
+
+same-length-6 : tie.Need-same-length-6 Inv-loop μ-loop
+same-length-6 c = search needs
+
+same-length-7 : tie.Need-same-length-7 Inv-loop μ-loop
+same-length-7 c = search needs
+
+same-length-8 : tie.Need-same-length-8 Inv-loop μ-loop
+same-length-8 c = search needs
+
+returns-2 : tie.Need-returns-2 Inv-loop μ-loop
+returns-2 c = read-last _ _ _ _ _ _ _ _ _ (c .before .before .loop .inv .so-far) (omega (arith, c .before .loop-test .left)) _ (c .at-last .ensures)
+
+pub read-unchecked-spec : {M : Type 1} → statement M
+read-unchecked-spec =
+    tie.close
+    (tie.spec
+    Inv-loop
+    μ-loop
+    digit-values-requires
+    loop-holds
+    next-step-requires
+    enum-known-step
+    mul-parents
+    slice-write-parents
+    add-layouts
+    add-at
+    loop-less
+    loop-again
+    enum-known-step-2
+    mul-tops
+    slice-write-tops
+    mul-bottoms
+    slice-write-bottoms
+    slice-write-marks
+    add-jobs
+    add-at-2
+    loop-less-2
+    loop-again-2
+    enum-told
+    add-at-3
+    loop-less-3
+    loop-again-3
+    enum-known-step-3
+    same-length
+    same-length-2
+    same-length-3
+    same-length-4
+    returns
+    at-last-requires
+    same-length-5
+    same-length-6
+    same-length-7
+    same-length-8
+    returns-2)

@@ -1,0 +1,239 @@
+-- The parts put together: the lines read, their jobs checked, and the outcome of the whole.
+use Prim.Native.Nat.{ℕ, _+_, _-_, _*_, _≤_, _<_}
+use mathlib.Core.Path.{_≡_, refl, sym, ap, _∙_}
+use mathlib.Core.Bool.{Bool, true, false, not, _||_}
+use mathlib.Core.List.{List, [], _∷_, _++_, map, foldr, List·Memᴰ as Mem, List·Memᴰ·head as here, List·Memᴰ·tail as there}
+use native.Mathlib.Omega.{arith}
+use native.Mathlib.Nat.{sub-zero}
+use lib.ListN.{length, take, replicate, length-take, length-replicate, take-append-drop}
+use lib.Seq.{length-take-le}
+use lib.Dec.{leb, ltb}
+use borrow.Author.Tests.{ltb-false}
+use Rattle.model.specs.Verdict.{Verdict, accepted, refused, refuseIf, _then_, padded}
+use Rattle.model.specs.Lists.{numbers}
+use Rattle.model.specs.Tree.{FFFF, layoutLimit, ancestorOrSelf, layoutsFrom, treeVerdict}
+use Rattle.model.specs.Jobs.{Table, jobs, jobLimit, top, bottom, jobVerdict}
+use Rattle.model.specs.Planning.{jobsVerdict}
+use Rattle.model.specs.Table.{Reading, read, stopped, unlessRefused, readTable, buffersVerdict, tableRead, readAnswer, readingAnswer}
+use Rattle.model.specs.Outcomes.{ReadAs}
+use Rattle.model.specs.declared.Refusal.{Refusal}
+use Rattle.model.specs.declared.Counts.{Counts}
+use Rattle.model.specs.declared.TableRead.{TableRead}
+use Rattle.model.specs.declared.TableRead.the-variants.{Read, Refused}
+use Rattle.tree_laws.specs.Numbers.{numbers-mem}
+use Rattle.tree_laws.specs.WellFormed.{Tree, well-formed}
+use Rattle.settle.specs.Spanned.{Spanned}
+use Rattle.jobs.specs.Accepted.{Accepted, table-accepted}
+use Rattle.jobs.specs.Checks.{checkVerdict, JobsChecked}
+use Rattle.jobs.specs.declared.JobCheck.{JobCheck}
+use Rattle.jobs.specs.declared.JobCheck.the-variants as check
+use Rattle.table.specs.Unchecked.{onItsLine, checked, read-checked}
+use Rattle.table.specs.Steps.{Unused, Spare, Room, Roomy, BuffersReady, held, Holds, stopVerdict, LinesRead}
+use Rattle.table.specs.declared.unchecked.Stop.{Stop}
+
+-- ---- the lines
+
+-- a right tree of at least one layout
+pub right-tree : (ps : List ℕ) → 0 < length ps → length ps ≤ layoutLimit → layoutsFrom 0 ps ≡ accepted → Tree ps
+unfolding treeVerdict
+right-tree [] h few right = absurd (omega arith)
+right-tree (p ∷ ps) h few right = well-formed (p ∷ ps) right few
+
+-- a refusal of the check names a job
+abbrev pub Answerable : ℕ → ℕ → JobCheck → Type 0
+Answerable n m check.Right = (n ≤ layoutLimit) × (m ≤ jobLimit)
+Answerable n m (check.Wrong r) = (n ≤ layoutLimit) × (r .place ≤ jobLimit)
+
+-- the job that is refused first is one of the list
+first-refused : (f : ℕ → Verdict) (l : List ℕ) (number place : ℕ) → ((j : ℕ) → Mem j l → (n p : ℕ) → f j ≡ refused n p → p < jobLimit) → foldr _then_ accepted (map f l) ≡ refused number place → place < jobLimit
+first-refused f [] number place h e = let apart : _≡_ {A = ℕ} 0 1 = cc in absurd (omega arith)
+first-refused f (x ∷ xs) number place h e = go (f x) refl (first-refused f xs number place (λ j m. h j (there m)))
+  where
+    go : (v : Verdict) → f x ≡ v → (foldr _then_ accepted (map f xs) ≡ refused number place → place < jobLimit) → place < jobLimit
+    go accepted q later = later (rw q at e)
+    go (refused n p) q later = h x (here refl) number place (q ∙ (rw q at e))
+
+own-place : (ps : List ℕ) (t b j n p : ℕ) → jobVerdict ps t b j ≡ refused n p → p ≡ j
+unfolding jobVerdict
+own-place ps t b j n p e = go (leb (length ps) t || leb (length ps) b) (not (ancestorOrSelf ps t b)) e
+  where
+    go : (x y : Bool) → (refuseIf x 5 j then refuseIf y 6 j) ≡ refused n p → p ≡ j
+    go true y q = cc
+    go false true q = cc
+    go false false q = let apart : _≡_ {A = ℕ} 0 1 = cc in absurd (omega arith)
+
+refused-job : (tb : Table) → jobs tb ≤ jobLimit → (number place : ℕ) → jobsVerdict tb ≡ refused number place → place < jobLimit
+unfolding jobsVerdict
+refused-job tb few number place e =
+    first-refused (λ (j : ℕ). jobVerdict (tb .parents) (top tb j) (bottom tb j) j) (numbers (jobs tb)) number place
+    (λ j m n p q. omega (arith, own-place (tb .parents) (top tb j) (bottom tb j) j n p q, numbers-mem (jobs tb) m)) e
+
+-- the counts n and m where both verdicts accept, else the first refusal
+abbrev pub answerVerdict : ℕ → ℕ → Verdict → Verdict → TableRead → Type 0
+answerVerdict n m jobs stop (Read c) = (jobs ≡ accepted) × (stop ≡ accepted) × (c .layouts ≡ n) × (c .jobs ≡ m)
+answerVerdict n m jobs stop (Refused r) = (onItsLine n jobs then stop) ≡ refused (r .number) (r .place)
+
+-- the reading t is the table of n layouts and m jobs in the first cells, which *Plan* accepts; no other cell is used, and the layouts are settled
+pub record TableHeld (t : Reading) (parents tops bottoms marks tree : List ℕ) (n m : ℕ) : Type 0 where
+  pub whole : t ≡ read (held parents tops bottoms marks n m)
+  pub holds : Holds parents tops bottoms marks n m
+  pub spanned : Spanned (take n parents) tree
+  pub table : Accepted (held parents tops bottoms marks n m)
+
+-- what a refusal leaves in the cells is open
+abbrev pub LinesOutcome : Reading → List ℕ → List ℕ → List ℕ → List ℕ → List ℕ → TableRead → Type 0
+LinesOutcome t parents tops bottoms marks tree (Read c) = TableHeld t parents tops bottoms marks tree (c .layouts) (c .jobs)
+LinesOutcome t parents tops bottoms marks tree (Refused r) = t ≡ stopped (r .number) (r .place)
+
+module _ (bytes parents tops bottoms marks tree : List ℕ) (n m : ℕ) (s : Stop) (c : JobCheck) (l : LinesRead bytes parents tops bottoms marks n m s)
+    (spanned : 0 < length (take n parents) → Spanned (take n parents) tree) (k : JobsChecked n (take m tops) (take m bottoms) tree c) where
+  counted-layouts : length (take n parents) ≡ n
+  counted-layouts = length-take-le n parents (l .holds .parents-hold)
+
+  counted-jobs : length (take m tops) ≡ m
+  counted-jobs = length-take-le m tops (l .holds .tops-hold)
+
+  -- the check is that of the table in the cells
+  jobs-checked : jobsVerdict (held parents tops bottoms marks n m) ≡ checkVerdict c
+  jobs-checked = k .verdict (take n parents) (take m marks) counted-layouts (λ h. spanned (omega (arith, counted-layouts, counted-jobs, l .holds .some-layout (omega (arith, counted-jobs)))))
+
+  pub answerable : Answerable n m c
+  answerable = go c jobs-checked
+    where
+      go : (x : JobCheck) → jobsVerdict (held parents tops bottoms marks n m) ≡ checkVerdict x → Answerable n m x
+      go check.Right e = (l .holds .few-layouts, l .holds .few-jobs)
+      go (check.Wrong r) e = (l .holds .few-layouts, omega (arith, refused-job (held parents tops bottoms marks n m) (rw counted-jobs (l .holds .few-jobs)) (r .number) (r .place) e))
+
+  -- what the bytes come to
+  checked-is : readTable bytes ≡ unlessRefused (onItsLine n (checkVerdict c) then stopVerdict s) (read (held parents tops bottoms marks n m))
+  unfolding checked
+  checked-is = read-checked bytes ∙ ap checked (l .read) ∙ rw (counted-layouts, jobs-checked) refl
+
+  pub lines-outcome : (r : TableRead) → answerVerdict n m (checkVerdict c) (stopVerdict s) r → LinesOutcome (readTable bytes) parents tops bottoms marks tree r
+  unfolding unlessRefused
+  lines-outcome (Refused r) a = checked-is ∙ rw a refl
+  lines-outcome (Read x) a =
+      let h = l .holds in
+      let some : 0 < length (take n parents) = omega (arith, counted-layouts, l .done (a .1)) in
+      let s = spanned some in
+      let right : jobsVerdict (held parents tops bottoms marks n m) ≡ accepted = jobs-checked ∙ a .0 in
+      rw (a .2, a .3)
+      (record {
+        whole = checked-is ∙ rw (a .0, a .1) refl;
+        holds = h;
+        spanned = s;
+        table = table-accepted (held parents tops bottoms marks n m) (s .tree) (rw counted-jobs (h .few-jobs)) (length-take-le m bottoms (h .bottoms-hold) ∙ sym counted-jobs) (length-take-le m marks (h .marks-hold) ∙ sym counted-jobs) right;
+      })
+
+-- ---- the buffers' sizes
+
+-- the buffers are as long as asked for
+pub record BuffersLong (parents tops bottoms marks : List ℕ) : Type 0 where
+  pub parents-long : layoutLimit ≤ length parents
+  pub tops-long : jobLimit ≤ length tops
+  pub bottoms-long : jobLimit ≤ length bottoms
+  pub marks-long : jobLimit ≤ length marks
+
+-- which is room for any table
+long-roomy : (bytes parents tops bottoms marks : List ℕ) → BuffersLong parents tops bottoms marks → Roomy bytes parents tops bottoms marks
+long-roomy bytes parents tops bottoms marks b =
+    record {
+      parents-room = b .parents-long;
+      tops-room = λ m h k. omega (arith, b .tops-long);
+      bottoms-room = λ m h k. omega (arith, b .bottoms-long);
+      marks-room = λ m h k. omega (arith, b .marks-long);
+    }
+
+no-ground : (g : Bool) (number place : ℕ) → refuseIf g number place ≡ accepted → g ≡ false
+no-ground false number place e = refl
+no-ground true number place e = cc
+
+neither : (a b : Bool) → (a || b) ≡ false → (a ≡ false) × (b ≡ false)
+neither false b e = (refl, e)
+neither true b e = (e, cc)
+
+pub sizes-accepted : (parents tops bottoms marks : List ℕ) → buffersVerdict (length parents) (length tops) (length bottoms) (length marks) ≡ accepted
+    → BuffersLong parents tops bottoms marks
+unfolding buffersVerdict
+sizes-accepted parents tops bottoms marks e =
+    let p = ltb (length parents) layoutLimit in
+    let t = ltb (length tops) jobLimit in
+    let b = ltb (length bottoms) jobLimit in
+    let m = ltb (length marks) jobLimit in
+    let four = neither (p || t || b) m (no-ground (p || t || b || m) 8 0 e) in
+    let three = neither (p || t) b (four .0) in
+    let two = neither p t (three .0) in
+    record {
+      parents-long = ltb-false (length parents) layoutLimit (two .0);
+      tops-long = ltb-false (length tops) jobLimit (two .1);
+      bottoms-long = ltb-false (length bottoms) jobLimit (three .1);
+      marks-long = ltb-false (length marks) jobLimit (four .1);
+    }
+
+-- ---- the outcome
+
+-- a buffer whose cells from n on hold v holds its first n and v in the others
+used-padded : (v n : ℕ) (cells old : List ℕ) → length cells ≡ length old → Unused v n cells → cells ≡ padded (length old) v (take n cells)
+used-padded v n cells old e u =
+    let left : length cells - n ≡ length old - length (take n cells) = rw length-take (omega arith) in
+    sym (take-append-drop n cells) ∙ ap (λ (l : List ℕ). take n cells ++ l) (u ∙ ap (λ (k : ℕ). replicate k v) left)
+
+-- a buffer that was filled has no used cell
+pub filled-unused : (v : ℕ) (cells old : List ℕ) → cells ≡ replicate (length old) v → Unused v 0 cells
+filled-unused v cells old e =
+    let long : length cells ≡ length old = ap length e ∙ length-replicate (length old) v in
+    rw (sub-zero (length cells), long) e
+
+-- lengths of the buffers are kept
+pub record Kept (parents tops bottoms marks parents′ tops′ bottoms′ marks′ : List ℕ) : Type 0 where
+  pub parents-kept : length parents′ ≡ length parents
+  pub tops-kept : length tops′ ≡ length tops
+  pub bottoms-kept : length bottoms′ ≡ length bottoms
+  pub marks-kept : length marks′ ≡ length marks
+
+-- buffers that were long and are clear are ready
+pub cleared-ready : (bytes parents tops bottoms marks parents′ tops′ bottoms′ marks′ : List ℕ) → BuffersLong parents tops bottoms marks → Kept parents tops bottoms marks parents′ tops′ bottoms′ marks′ → Spare parents′ tops′ bottoms′ marks′ 0 0 → BuffersReady bytes parents′ tops′ bottoms′ marks′
+cleared-ready bytes parents tops bottoms marks parents′ tops′ bottoms′ marks′ b k clear =
+    record {
+      room =
+          long-roomy bytes parents′ tops′ bottoms′ marks′
+          (record {
+            parents-long = rw (k .parents-kept) (b .parents-long);
+            tops-long = rw (k .tops-kept) (b .tops-long);
+            bottoms-long = rw (k .bottoms-kept) (b .bottoms-long);
+            marks-long = rw (k .marks-kept) (b .marks-long);
+          });
+      clear = clear;
+    }
+
+-- refusal 8 changes nothing
+pub sizes-refused : (t : Reading) (parents tops bottoms marks : List ℕ)
+    → ReadAs (refused 8 0) t parents tops bottoms marks (Refused (record { number = 8; place = 0 })) parents tops bottoms marks
+unfolding readAnswer
+sizes-refused t parents tops bottoms marks = record { answered = refl; parents-hold = refl; tops-hold = refl; bottoms-hold = refl; marks-hold = refl }
+
+module _ (t : Reading) (parents tops bottoms marks parents′ tops′ bottoms′ marks′ : List ℕ) where
+  pub all-read : (tree : List ℕ) (c : Counts) → LinesOutcome t parents′ tops′ bottoms′ marks′ tree (Read c)
+      → Kept parents tops bottoms marks parents′ tops′ bottoms′ marks′ → ReadAs accepted t parents tops bottoms marks (Read c) parents′ tops′ bottoms′ marks′
+  unfolding readAnswer readingAnswer tableRead
+  all-read tree c o k =
+      let whole = o .whole in
+      record {
+        answered = rw (whole, length-take-le (c .layouts) parents′ (o .holds .parents-hold), length-take-le (c .jobs) tops′ (o .holds .tops-hold));
+        parents-hold = rw whole (used-padded FFFF (c .layouts) parents′ parents (k .parents-kept) (o .holds .spare .parents-spare));
+        tops-hold = rw whole (used-padded FFFF (c .jobs) tops′ tops (k .tops-kept) (o .holds .spare .tops-spare));
+        bottoms-hold = rw whole (used-padded FFFF (c .jobs) bottoms′ bottoms (k .bottoms-kept) (o .holds .spare .bottoms-spare));
+        marks-hold = rw whole (used-padded 0 (c .jobs) marks′ marks (k .marks-kept) (o .holds .spare .marks-spare));
+      }
+
+  pub line-refused : (r : Refusal) → t ≡ stopped (r .number) (r .place) → Spare parents′ tops′ bottoms′ marks′ 0 0 → Kept parents tops bottoms marks parents′ tops′ bottoms′ marks′
+      → ReadAs accepted t parents tops bottoms marks (Refused r) parents′ tops′ bottoms′ marks′
+  unfolding readAnswer readingAnswer tableRead
+  line-refused r e clear k =
+      record {
+        answered = rw e;
+        parents-hold = rw e (used-padded FFFF 0 parents′ parents (k .parents-kept) (clear .parents-spare));
+        tops-hold = rw e (used-padded FFFF 0 tops′ tops (k .tops-kept) (clear .tops-spare));
+        bottoms-hold = rw e (used-padded FFFF 0 bottoms′ bottoms (k .bottoms-kept) (clear .bottoms-spare));
+        marks-hold = rw e (used-padded 0 0 marks′ marks (k .marks-kept) (clear .marks-spare));
+      }
