@@ -5,6 +5,7 @@ pub mod Places
 pub mod Sorting
 pub mod Maximum
 pub mod Passes
+pub mod Renamed
 pub mod Prefix
 pub mod RunningOrder
 pub mod Compatible

@@ -20,7 +20,7 @@ use Rattle.model.specs.Planning.{partnerIn, partners, pairs, singles}
 use Rattle.tree_laws.specs.Lists.{Distinct, all-mem, mem-all, pairwise-imply, select-mem, mem-select, select-pairwise}
 use Rattle.matching.specs.Compatible.{compatible-true, compatible-symmetric}
 use Rattle.matching.specs.Counting.{count-length-all, count-agree, count-none, count-all, count-select, count-map, count-at}
-use Rattle.matching.specs.Passes.{pairsIn, vertices, pairs-length, greedy-distinct, greedy-mem, mem-greedy, greedy-count, greedy-fits, greedy-places}
+use Rattle.matching.specs.Passes.{passes-counted, pairsIn, vertices, pairs-length, greedy-distinct, greedy-mem, mem-greedy, greedy-count, greedy-fits, greedy-places}
 use Rattle.matching.specs.Lists.{and-both, true-T, all-member, member-all, map-all, map-mem, map-pairwise}
 use Rattle.tree_laws.specs.Numbers.{mem-numbers, numbers-mem, numbers-at, numbers-rise, numbers-distinct}
 use Rattle.matching.specs.RunningOrder.{running-mem, mem-running, running-length, running-distinct, place-lt}
@@ -260,17 +260,10 @@ module _ (tb : Table) where
   unfolding passes pairs singles
   jobs-counted = sym (running-length tb) ∙ greedy-count (compatible tb) (runningOrder tb) (running-distinct tb)
 
-  -- so the pairs are at most half as many
-  pub pairs-bound : 2 * pairs tb ≤ jobs tb
-  pairs-bound = omega (arith, jobs-counted)
-
-  -- singles are M − 2 × pairs
-  pub singles-are : singles tb ≡ jobs tb - 2 * pairs tb
-  singles-are = omega (arith, jobs-counted)
-
-  -- the passes are M less the pairs
-  pub passes-are : pairs tb + singles tb ≡ jobs tb - pairs tb
-  passes-are = omega (arith, jobs-counted)
+  -- there are as many passes as pairs and singles
+  pub passes-length : length (passes tb) ≡ pairs tb + singles tb
+  unfolding pairs singles
+  passes-length = passes-counted (passes tb)
 
   -- a cell holds the job's partner
   pub partner-cell : (i : ℕ) → i < jobs tb → getD (partners tb) i FFFF ≡ partnerIn (passes tb) i

@@ -29,6 +29,13 @@ vertices [] = []
 vertices (pair i j ∷ ps) = i ∷ j ∷ vertices ps
 vertices (single i ∷ ps) = i ∷ vertices ps
 
+-- each pass is one pair or one single
+pub passes-counted : (ps : List Pass) → length ps ≡ total pairCount ps + total singleCount ps
+unfolding total pairCount singleCount
+passes-counted [] = refl
+passes-counted (pair i j ∷ ps) = omega (arith, passes-counted ps)
+passes-counted (single i ∷ ps) = omega (arith, passes-counted ps)
+
 -- there are as many pairs as `pairCount` counts
 pub pairs-length : (ps : List Pass) → length (pairsIn ps) ≡ total pairCount ps
 unfolding pairsIn total pairCount

@@ -1,5 +1,4 @@
--- Document 01's worked tables ("Tables to try", those marked ◆): one table of examples, and one fact about it.
--- Assumes nothing.
+-- Document 01's worked tables ("Tables to try", those marked ◆), and what is printed for some: one table of examples, and one fact about it.
 use Prim.Native.Nat.{ℕ}
 use mathlib.Core.Path.{_≡_, refl}
 use mathlib.Core.List.{List, [], _∷_, _++_, map, flatMap, headD}
@@ -10,7 +9,7 @@ use Rattle.model.specs.Tree.{FFFF, rightParent, layoutsFrom, treeVerdict
 use Rattle.model.specs.Jobs.{Table, solo, upTo, pathFrom, path, shares, deepestShared, topDepth, bottomLeaf, jobVerdict}
 use Rattle.model.specs.Order.{earlier, runningOrder, place, leftward, slotOrder, slot}
 use Rattle.model.specs.Greedy.{Pass, pair, single, without, turn, turns, greedy, compatible, passes}
-use Rattle.model.specs.Visits.{levelsFrom, levels, cellVisits, visits, askedFrom, askedTo, lookupVisits, passVisits, cellCount}
+use Rattle.model.specs.Visits.{levelsFrom, levels, cellVisits, visits, asksFor, askedSlots, askedFrom, askedTo, lookupVisits, passVisits, cellCount}
 use Rattle.model.specs.Planning.{workCells, lentVerdict, jobsVerdict, planVerdict, partnerIn, pairCount, singleCount, partners, printed, layouts, pairs, singles}
 use Rattle.model.specs.Table.{isDigit, digitValue, numberAfter, lead, lines, frameOfKind, frameOf, isEnd, outOfOrder, contentVerdict, frameVerdict, extended, unlessRefused, readFrame, readLines, readTable}
 use Rattle.model.specs.Output.{digit, hex, pairLine, singleLine, totalsLine, passLine, planBytes, refusalBytes, readingBytes, runBytes}
@@ -48,8 +47,8 @@ record Example : Type 0 where
   jobs : List Job
   expected : Outcome
 
-tableOf : Example → Table
-tableOf e =
+tableIn : Example → Table
+tableIn e =
     record {
       parents = e .parents;
       tops = map (λ (j : Job). j .top) (e .jobs);
@@ -60,7 +59,7 @@ tableOf e =
 -- what *Plan* does, with buffers of the right sizes
 planned : Example → Outcome
 planned e =
-    outcome (tableOf e) (planVerdict (tableOf e) (length (e .jobs)) (length (e .jobs)) workCells)
+    outcome (tableIn e) (planVerdict (tableIn e) (length (e .jobs)) (length (e .jobs)) workCells)
 
 F : ℕ
 F = FFFF
@@ -95,10 +94,6 @@ examples =
     ∷ record { parents = F ∷ 0 ∷ []; jobs = 1 to 0 ∷ []; expected = turnsAway 6 0 }
     ∷ []
 
-examples-hold : map planned examples ≡ map (λ (e : Example). e .expected) examples
-unfolding numbersFrom numbers elem indexOf lastD anyOf allOf select countWhere find total insertBy sortBy rightParent layoutsFrom treeVerdict ascend ancestors ancestorOrSelf depth children orSelf leavesWithin leaves firstLeaf lastLeaf solo upTo pathFrom path shares deepestShared topDepth bottomLeaf jobVerdict earlier runningOrder place leftward slotOrder slot without turn turns greedy compatible passes levelsFrom levels cellVisits visits askedFrom askedTo lookupVisits passVisits cellCount lentVerdict jobsVerdict planVerdict partnerIn pairCount singleCount partners printed layouts pairs singles passNumbers outcome _to_ _soloTo_ tableOf planned F bakehouse examples flatMap headD
-examples-hold = refl
-
 -- ---- from bytes to bytes
 
 -- a line by its digits' values
@@ -107,14 +102,14 @@ spelled ds = map (λ (d : ℕ). getD (48 ∷ 49 ∷ 50 ∷ 51 ∷ 52 ∷ 53 ∷ 
 
 -- a table's lines, and all that is printed for them
 record Printing : Type 0 where
-  table : List (List ℕ)
-  printed : List (List ℕ)
+  lines : List (List ℕ)
+  spells : List (List ℕ)
 
 -- the bakehouse table, no bytes at all, and the two refused tables
 printings : List Printing
 printings =
     record {
-      table =
+      lines =
           (0 ∷ 1 ∷ 15 ∷ 15 ∷ 15 ∷ 15 ∷ [])
           ∷ (0 ∷ 1 ∷ 0 ∷ 0 ∷ 0 ∷ 0 ∷ [])
           ∷ (0 ∷ 1 ∷ 0 ∷ 0 ∷ 0 ∷ 0 ∷ [])
@@ -126,29 +121,32 @@ printings =
           ∷ (0 ∷ 2 ∷ 0 ∷ 0 ∷ 0 ∷ 3 ∷ 0 ∷ 0 ∷ 0 ∷ 3 ∷ [])
           ∷ (0 ∷ 3 ∷ 0 ∷ 0 ∷ 0 ∷ 4 ∷ 0 ∷ 0 ∷ 0 ∷ 5 ∷ [])
           ∷ [];
-      printed =
+      spells =
           (1 ∷ 1 ∷ 0 ∷ 0 ∷ 0 ∷ 4 ∷ 0 ∷ 0 ∷ 0 ∷ 1 ∷ 0 ∷ 0 ∷ 0 ∷ 3 ∷ [])
           ∷ (1 ∷ 1 ∷ 0 ∷ 0 ∷ 0 ∷ 2 ∷ 0 ∷ 0 ∷ 0 ∷ 3 ∷ 0 ∷ 0 ∷ 0 ∷ 2 ∷ [])
           ∷ (1 ∷ 2 ∷ 0 ∷ 0 ∷ 0 ∷ 0 ∷ [])
           ∷ (1 ∷ 15 ∷ 0 ∷ 0 ∷ 0 ∷ 2 ∷ 0 ∷ 0 ∷ 0 ∷ 1 ∷ 0 ∷ 0 ∷ 0 ∷ 0 ∷ 0 ∷ 0 ∷ 1 ∷ 9 ∷ [])
           ∷ [];
     }
-    ∷ record { table = []; printed = (1 ∷ 14 ∷ 0 ∷ 7 ∷ 0 ∷ 0 ∷ 0 ∷ 1 ∷ []) ∷ [] }
+    ∷ record { lines = []; spells = (1 ∷ 14 ∷ 0 ∷ 7 ∷ 0 ∷ 0 ∷ 0 ∷ 1 ∷ []) ∷ [] }
     ∷ record {
-      table = (0 ∷ 1 ∷ 15 ∷ 15 ∷ 15 ∷ 15 ∷ []) ∷ (0 ∷ 1 ∷ 0 ∷ 0 ∷ 0 ∷ 1 ∷ []) ∷ [];
-      printed = (1 ∷ 14 ∷ 0 ∷ 4 ∷ 0 ∷ 0 ∷ 0 ∷ 2 ∷ []) ∷ [];
+      lines = (0 ∷ 1 ∷ 15 ∷ 15 ∷ 15 ∷ 15 ∷ []) ∷ (0 ∷ 1 ∷ 0 ∷ 0 ∷ 0 ∷ 1 ∷ []) ∷ [];
+      spells = (1 ∷ 14 ∷ 0 ∷ 4 ∷ 0 ∷ 0 ∷ 0 ∷ 2 ∷ []) ∷ [];
     }
     ∷ record {
-      table = (0 ∷ 1 ∷ 15 ∷ 15 ∷ 15 ∷ 15 ∷ []) ∷ (0 ∷ 1 ∷ 0 ∷ 0 ∷ 0 ∷ 0 ∷ []) ∷ (0 ∷ 2 ∷ 0 ∷ 0 ∷ 0 ∷ 1 ∷ 0 ∷ 0 ∷ 0 ∷ 0 ∷ []) ∷ [];
-      printed = (1 ∷ 14 ∷ 0 ∷ 6 ∷ 0 ∷ 0 ∷ 0 ∷ 3 ∷ []) ∷ [];
+      lines = (0 ∷ 1 ∷ 15 ∷ 15 ∷ 15 ∷ 15 ∷ []) ∷ (0 ∷ 1 ∷ 0 ∷ 0 ∷ 0 ∷ 0 ∷ []) ∷ (0 ∷ 2 ∷ 0 ∷ 0 ∷ 0 ∷ 1 ∷ 0 ∷ 0 ∷ 0 ∷ 0 ∷ []) ∷ [];
+      spells = (1 ∷ 14 ∷ 0 ∷ 6 ∷ 0 ∷ 0 ∷ 0 ∷ 3 ∷ []) ∷ [];
     }
     ∷ []
 
-printings-hold : map (λ (e : Printing). runBytes (flatMap spelled (e .table))) printings ≡ map (λ (e : Printing). flatMap spelled (e .printed)) printings
-unfolding numbersFrom numbers elem indexOf lastD anyOf allOf select countWhere find total insertBy sortBy rightParent layoutsFrom treeVerdict ascend ancestors ancestorOrSelf depth children orSelf leavesWithin leaves firstLeaf lastLeaf solo upTo pathFrom path shares deepestShared topDepth bottomLeaf jobVerdict earlier runningOrder place leftward slotOrder slot without turn turns greedy compatible passes levelsFrom levels cellVisits visits askedFrom askedTo lookupVisits passVisits cellCount lentVerdict jobsVerdict planVerdict partnerIn pairCount singleCount partners printed layouts pairs singles passNumbers outcome _to_ _soloTo_ tableOf planned F bakehouse examples flatMap headD isDigit digitValue numberAfter lead lines frameOfKind frameOf isEnd outOfOrder contentVerdict frameVerdict extended unlessRefused readFrame readLines readTable digit hex pairLine singleLine totalsLine passLine planBytes refusalBytes readingBytes runBytes spelled printings
-printings-hold = refl
+-- ---- the fact
 
--- the running order of the bakehouse, and the cells that the lookups of jobs 4, 2 and 0 visit
-bakehouse-sweep : (runningOrder (tableOf bakehouse) ≡ 4 ∷ 1 ∷ 2 ∷ 0 ∷ 3 ∷ []) × (map (lookupVisits (tableOf bakehouse)) (4 ∷ 2 ∷ 0 ∷ []) ≡ 7 ∷ 11 ∷ 7 ∷ [])
-unfolding numbersFrom numbers elem indexOf lastD select countWhere insertBy sortBy ascend ancestors depth children orSelf leavesWithin leaves firstLeaf lastLeaf solo topDepth bottomLeaf earlier runningOrder place leftward slotOrder slot levelsFrom levels cellVisits visits askedFrom askedTo lookupVisits _to_ tableOf F bakehouse flatMap headD
-bakehouse-sweep = (refl, refl)
+-- each table is planned or refused as expected, each printing is as spelled, the bakehouse has its running order, and the lookups of jobs 4, 2 and 0 visit
+-- 7, 11 and 7 cells
+examples-hold :
+    (map planned examples ≡ map (λ (e : Example). e .expected) examples)
+    × (map (λ (e : Printing). runBytes (flatMap spelled (e .lines))) printings ≡ map (λ (e : Printing). flatMap spelled (e .spells)) printings)
+    × (runningOrder (tableIn bakehouse) ≡ 4 ∷ 1 ∷ 2 ∷ 0 ∷ 3 ∷ [])
+    × (map (lookupVisits (tableIn bakehouse)) (4 ∷ 2 ∷ 0 ∷ []) ≡ 7 ∷ 11 ∷ 7 ∷ [])
+unfolding numbersFrom numbers elem indexOf lastD anyOf allOf select countWhere find total insertBy sortBy rightParent layoutsFrom treeVerdict ascend ancestors ancestorOrSelf depth children orSelf leavesWithin leaves firstLeaf lastLeaf solo upTo pathFrom path shares deepestShared topDepth bottomLeaf jobVerdict earlier runningOrder place leftward slotOrder slot without turn turns greedy compatible passes levelsFrom levels cellVisits visits asksFor askedSlots askedFrom askedTo lookupVisits passVisits cellCount lentVerdict jobsVerdict planVerdict partnerIn pairCount singleCount partners printed layouts pairs singles passNumbers outcome _to_ _soloTo_ tableIn planned F bakehouse examples flatMap headD isDigit digitValue numberAfter lead lines frameOfKind frameOf isEnd outOfOrder contentVerdict frameVerdict extended unlessRefused readFrame readLines readTable digit hex pairLine singleLine totalsLine passLine planBytes refusalBytes readingBytes runBytes spelled printings
+examples-hold = (refl, refl, refl, refl)

@@ -2,10 +2,13 @@
 -- Assumes nothing.
 use Prim.Native.Nat.{ℕ, zero, suc, _+_, _^_}
 use mathlib.Core.Bool.{Bool, cond, _||_, _&&_}
-use lib.Dec.{leb, ltb}
-use Rattle.model.specs.Lists.{numbers, countWhere, total}
+use mathlib.Core.List.{List, headD}
+use lib.ListN.{length, getD}
+use lib.Dec.{leb}
+use Rattle.model.specs.Lists.{numbers, select, total}
 use Rattle.model.specs.Tree.{firstLeaf, lastLeaf}
 use Rattle.model.specs.Jobs.{Table, jobs, top, solo, bottomLeaf}
+use Rattle.model.specs.Order.{slotOrder}
 use Rattle.model.specs.Greedy.{Pass, pair, single, passes}
 
 -- the smallest k from k on with m ≤ 2 ^ k, in n steps
@@ -32,13 +35,22 @@ unfoldable pub visits : ℕ → ℕ → ℕ → ℕ
 visits k lo hi = cond (leb hi lo) 1 (cellVisits k 0 lo hi)
 
 module _ (tb : Table) where
-  -- the slots whose first leaf lies in the leaf span of the job's top: those from `askedFrom` up to `askedTo`, as many as lie left of
-  -- the span's end, without those left of its start
+  -- the lookup of job i asks for slot s: the bottom of the slot's job has its first leaf in the leaf span of the top of i
+  unfoldable pub asksFor : ℕ → ℕ → Bool
+  asksFor i s =
+      leb (firstLeaf (tb .parents) (top tb i)) (bottomLeaf tb (getD (slotOrder tb) s 0))
+      && leb (bottomLeaf tb (getD (slotOrder tb) s 0)) (lastLeaf (tb .parents) (top tb i))
+
+  -- every slot that it asks for, in order
+  unfoldable pub askedSlots : ℕ → List ℕ
+  askedSlots i = select (asksFor i) (numbers (jobs tb))
+
+  -- slots stand by first leaf, so these are a span: from the first of them up to as many more as there are
   unfoldable pub askedFrom : ℕ → ℕ
-  askedFrom i = countWhere (λ (j : ℕ). ltb (bottomLeaf tb j) (firstLeaf (tb .parents) (top tb i))) (numbers (jobs tb))
+  askedFrom i = headD (askedSlots i) 0
 
   unfoldable pub askedTo : ℕ → ℕ
-  askedTo i = countWhere (λ (j : ℕ). leb (bottomLeaf tb j) (lastLeaf (tb .parents) (top tb i))) (numbers (jobs tb))
+  askedTo i = askedFrom i + length (askedSlots i)
 
   -- the visits of the job's lookup; a solo job has none
   unfoldable pub lookupVisits : ℕ → ℕ

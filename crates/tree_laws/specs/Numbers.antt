@@ -39,13 +39,13 @@ pub numbers-length : (n : ℕ) → length (numbers n) ≡ n
 unfolding numbers
 numbers-length n = range-length 0 n
 
-range-at : (f : ℕ → ℕ) (a n i d : ℕ) → i < n → getD (map f (numbersFrom a n)) i d ≡ f (a + i)
+range-at : {A : Type 0} (f : ℕ → A) (a n i : ℕ) (d : A) → i < n → getD (map f (numbersFrom a n)) i d ≡ f (a + i)
 unfolding numbersFrom
 range-at f a zero i d h = absurd (omega arith)
 range-at f a (suc n) zero d h = ap f (omega arith)
 range-at f a (suc n) (suc i) d h = range-at f (suc a) n i d (omega arith) ∙ ap f (omega arith)
 
 -- in a list made of them what is made of i stands at i
-pub numbers-at : (f : ℕ → ℕ) (n i d : ℕ) → i < n → getD (map f (numbers n)) i d ≡ f i
+pub numbers-at : {A : Type 0} (f : ℕ → A) (n i : ℕ) (d : A) → i < n → getD (map f (numbers n)) i d ≡ f i
 unfolding numbers
 numbers-at f n i d h = range-at f 0 n i d h ∙ ap f (omega arith)

@@ -1,0 +1,191 @@
+-- The slots that a lookup asks for (document 01, "The shelf and its cells"): those whose first leaf lies in the leaf span of the job's top. They are the
+-- slots from the number of jobs left of the span up to the number of jobs left of its end.
+use Prim.Native.Nat.{ℕ, zero, suc, _+_, _-_, _<_, _≤_}
+use mathlib.Core.Path.{_≡_, refl, sym, ap, _∙_}
+use mathlib.Core.Logic.{_⊎_, ⊎-elim, _↔_}
+use mathlib.Core.Bool.{Bool, true, _&&_, and-false}
+use mathlib.Core.List.{List, [], _∷_, headD, List·Memᴰ as Mem}
+use native.Mathlib.Omega.{arith}
+use native.Mathlib.Decide.{decLt}
+use lib.ListN.{length, getD}
+use lib.Dec.{ltb, leb}
+use borrow.Author.Tests.{lt-ltb, le-ltb, le-leb, lt-leb, ltb-true}
+use Rattle.model.specs.Lists.{numbersFrom, numbers, select, countWhere, All}
+use Rattle.model.specs.Tree.{firstLeaf, lastLeaf}
+use Rattle.model.specs.Jobs.{Table, jobs, top, bottomLeaf}
+use Rattle.model.specs.Order.{leftward, slotOrder, slot, place}
+use Rattle.model.specs.Visits.{asksFor, askedSlots, askedFrom, askedTo}
+use Rattle.tree_laws.specs.Lists.{getD-mem, mem-all, range-mem, mem-range}
+use Rattle.tree_laws.specs.Numbers.{numbers-mem}
+use Rattle.tree_laws.specs.Spans.{ancestor-span}
+use Rattle.matching.specs.RunningOrder.{lexicographic-true, lexicographic-first, leftward-order, slots-mem, slots-length, slot-count, slot-of-job}
+use Rattle.matching.specs.Sorting.{irreflexive}
+use Rattle.jobs.specs.Accepted.{Accepted}
+use Rattle.schedule_laws.specs.Counts.{count-bound, count-le, count-lt}
+
+-- ---- a span of numbers
+
+-- s lies from `from` up to `to`
+abbrev between : ℕ → ℕ → ℕ → Bool
+between from to s = leb from s && ltb s to
+
+select-agree : (p q : ℕ → Bool) (l : List ℕ) → All (λ (x : ℕ). p x ≡ q x) l → select p l ≡ select q l
+unfolding select
+select-agree p q [] a = refl
+select-agree p q (x ∷ xs) a = rw (a .0, select-agree p q xs (a .1)) refl
+
+module _ (from to : ℕ) where
+  -- of the numbers from a on those between: none where a is past the end, all up to the end where a is past the start
+  select-past : (a n : ℕ) → to ≤ a → select (between from to) (numbersFrom a n) ≡ []
+  unfolding numbersFrom select
+  select-past a zero h = refl
+  select-past a (suc n) h = rw (le-ltb a to h, and-false (leb from a)) (select-past (suc a) n (omega arith))
+
+  select-inside : (a n : ℕ) → from ≤ a → a ≤ to → to ≤ a + n → select (between from to) (numbersFrom a n) ≡ numbersFrom a (to - a)
+  unfolding numbersFrom select
+  select-inside a zero h k l = let none : to - a ≡ 0 = omega arith in rw none refl
+  select-inside a (suc n) h k l = elim (decLt a to) [
+    | yes more ↦
+        let rest : to - a ≡ suc (to - suc a) = omega arith in
+        rw (le-leb from a h, lt-ltb a to more, rest) (ap (λ (l : List ℕ). a ∷ l) (select-inside (suc a) n (omega arith) (omega arith) (omega arith)))
+    | no over ↦
+        let none : to - a ≡ 0 = omega arith in
+        rw (le-ltb a to (omega arith), and-false (leb from a), none) (select-past (suc a) n (omega arith))
+  ]
+
+  select-range : (a n : ℕ) → from ≤ to → a ≤ from → to ≤ a + n → select (between from to) (numbersFrom a n) ≡ numbersFrom from (to - from)
+  unfolding numbersFrom select
+  select-range a n h k l = go a n (from - a) refl k l
+    where
+      go : (a n d : ℕ) → from - a ≡ d → a ≤ from → to ≤ a + n → select (between from to) (numbersFrom a n) ≡ numbersFrom from (to - from)
+      go a n zero e k l = let same : a ≡ from = omega arith in rw same (select-inside from n (omega arith) h (omega arith))
+      go a zero (suc d) e k l = absurd (omega arith)
+      go a (suc n) (suc d) e k l = rw (lt-leb from a (omega arith)) (go (suc a) n d (omega arith) (omega arith) (omega arith))
+
+range-head : (a n d : ℕ) → 0 < n → headD (numbersFrom a n) d ≡ a
+unfolding numbersFrom headD
+range-head a zero d h = absurd (omega arith)
+range-head a (suc n) d h = refl
+
+range-length : (a n : ℕ) → length (numbersFrom a n) ≡ n
+unfolding numbersFrom
+range-length a zero = refl
+range-length a (suc n) = ap suc (range-length (suc a) n)
+
+-- ---- the slots by first leaf
+
+module _ (tb : Table) where
+  -- how many jobs' first leaves are left of x
+  unfoldable pub leftOf : ℕ → ℕ
+  leftOf x = countWhere (λ (j : ℕ). ltb (bottomLeaf tb j) x) (numbers (jobs tb))
+
+  leftward-leaf : (i j : ℕ) → leftward tb i j ≡ true → bottomLeaf tb i ≤ bottomLeaf tb j
+  unfolding leftward
+  leftward-leaf i j e = ⊎-elim (λ h. omega arith) (λ h. omega arith) (lexicographic-true (bottomLeaf tb i) (bottomLeaf tb j) (place tb i) (place tb j) e)
+
+  leaf-leftward : (i j : ℕ) → bottomLeaf tb i < bottomLeaf tb j → leftward tb i j ≡ true
+  unfolding leftward
+  leaf-leftward i j h = lexicographic-first (bottomLeaf tb i) (bottomLeaf tb j) (place tb i) (place tb j) h
+
+  -- a slot is below that number exactly if its first leaf is left of x
+  slot-left : (j x : ℕ) → j < jobs tb → bottomLeaf tb j < x → slot tb j < leftOf x
+  unfolding leftOf
+  slot-left j x h l =
+      rw (slot-count tb j h)
+      (count-lt (λ (i : ℕ). leftward tb i j) (λ (i : ℕ). ltb (bottomLeaf tb i) x) (jobs tb) j
+      (λ u k e. lt-ltb (bottomLeaf tb u) x (omega (arith, leftward-leaf u j e)))
+      h (irreflexive (λ (j : ℕ). j < jobs tb) (leftward tb) (leftward-order tb) j) (lt-ltb (bottomLeaf tb j) x l))
+
+  slot-right : (j x : ℕ) → j < jobs tb → x ≤ bottomLeaf tb j → leftOf x ≤ slot tb j
+  unfolding leftOf
+  slot-right j x h l =
+      rw (slot-count tb j h)
+      (count-le (λ (i : ℕ). ltb (bottomLeaf tb i) x) (λ (i : ℕ). leftward tb i j) (jobs tb)
+      (λ u k e. leaf-leftward u j (omega (arith, ltb-true (bottomLeaf tb u) x e))))
+
+  pub left-bound : (x : ℕ) → leftOf x ≤ jobs tb
+  unfolding leftOf
+  left-bound x = count-bound (λ (j : ℕ). ltb (bottomLeaf tb j) x) (jobs tb)
+
+  module _ (j x : ℕ) (h : j < jobs tb) where
+    lower : leb (leftOf x) (slot tb j) ≡ leb x (bottomLeaf tb j)
+    lower = elim (decLt (bottomLeaf tb j) x) [
+      | yes left ↦ rw (lt-leb x (bottomLeaf tb j) left, lt-leb (leftOf x) (slot tb j) (slot-left j x h left)) refl
+      | no right ↦ rw (le-leb x (bottomLeaf tb j) (omega arith), le-leb (leftOf x) (slot tb j) (slot-right j x h (omega arith))) refl
+    ]
+
+    upper : ltb (slot tb j) (leftOf (suc x)) ≡ leb (bottomLeaf tb j) x
+    upper = elim (decLt x (bottomLeaf tb j)) [
+      | yes right ↦ rw (lt-leb (bottomLeaf tb j) x right, le-ltb (slot tb j) (leftOf (suc x)) (slot-right j (suc x) h (omega arith))) refl
+      | no left ↦ rw (le-leb (bottomLeaf tb j) x (omega arith), lt-ltb (slot tb j) (leftOf (suc x)) (slot-left j (suc x) h (omega arith))) refl
+    ]
+
+  module _ (i : ℕ) where
+    -- the slots asked for as a span: from the number of jobs left of the leaf span up to the number of jobs left of its end
+    abbrev start : ℕ
+    start = leftOf (firstLeaf (tb .parents) (top tb i))
+
+    abbrev end : ℕ
+    end = leftOf (suc (lastLeaf (tb .parents) (top tb i)))
+
+    -- a job's slot lies there exactly if the first leaf of its bottom lies in the span of the top
+    slot-between : (j : ℕ) → j < jobs tb → between start end (slot tb j) ≡ (leb (firstLeaf (tb .parents) (top tb i)) (bottomLeaf tb j) && leb (bottomLeaf tb j) (lastLeaf (tb .parents) (top tb i)))
+    slot-between j h = rw (lower j (firstLeaf (tb .parents) (top tb i)) h, upper j (lastLeaf (tb .parents) (top tb i)) h) refl
+
+    asks-between : (s : ℕ) → s < jobs tb → asksFor tb i s ≡ between start end s
+    unfolding asksFor
+    asks-between s h =
+        let j-known : getD (slotOrder tb) s 0 < jobs tb = slots-mem tb (getD-mem (slotOrder tb) s 0 (rw (slots-length tb) h)) in
+        sym (slot-between (getD (slotOrder tb) s 0) j-known) ∙ ap (between start end) (slot-of-job tb s 0 h)
+
+  module _ (a : Accepted tb) (i : ℕ) (known : i < jobs tb) where
+    -- a job asks for its own slot
+    own-start : start i ≤ slot tb i
+    unfolding bottomLeaf
+    own-start =
+        let own = ancestor-span (tb .parents) (a .tree) (a .bottom-known i known) (a .downward i known) in
+        slot-right i (firstLeaf (tb .parents) (top tb i)) known (own .0 .first)
+
+    own-end : slot tb i < end i
+    unfolding bottomLeaf
+    own-end =
+        let own = ancestor-span (tb .parents) (a .tree) (a .bottom-known i known) (a .downward i known) in
+        slot-left i (suc (lastLeaf (tb .parents) (top tb i))) known (omega (arith, own .0 .last))
+
+    -- the slots asked for are those from `start` up to `end`
+    asked-range : askedSlots tb i ≡ numbersFrom (start i) (end i - start i)
+    unfolding askedSlots numbers
+    asked-range =
+        select-agree (asksFor tb i) (between (start i) (end i)) (numbers (jobs tb)) (mem-all (λ (s : ℕ). asksFor tb i s ≡ between (start i) (end i) s) (numbers (jobs tb)) (λ s m. asks-between i s (numbers-mem (jobs tb) m)))
+        ∙ select-range (start i) (end i) 0 (jobs tb) (omega (arith, own-start, own-end)) (omega arith) (omega (arith, left-bound (suc (lastLeaf (tb .parents) (top tb i)))))
+
+    -- so the span begins at the number of jobs left of the leaf span
+    pub from-is : askedFrom tb i ≡ leftOf (firstLeaf (tb .parents) (top tb i))
+    unfolding askedFrom
+    from-is = rw asked-range (range-head (start i) (end i - start i) 0 (omega (arith, own-start, own-end)))
+
+    -- and ends at the number of jobs left of its end
+    pub to-is : askedTo tb i ≡ leftOf (suc (lastLeaf (tb .parents) (top tb i)))
+    unfolding askedTo
+    to-is = rw (from-is, asked-range, range-length (start i) (end i - start i)) (omega (arith, own-start, own-end))
+
+    -- a slot is asked for exactly if it lies between the two
+    pub asked-between : (s : ℕ) → s < jobs tb → asksFor tb i s ≡ (leb (askedFrom tb i) s && ltb s (askedTo tb i))
+    asked-between s h = rw (from-is, to-is) (asks-between i s h)
+
+    pub asked-mem : (s : ℕ) → Mem s (askedSlots tb i) ↔ ((askedFrom tb i ≤ s) × (s < askedTo tb i))
+    asked-mem s =
+        rw (asked-range, from-is, to-is) (
+          λ m. let r = range-mem (start i) (end i - start i) m in (r .0, omega (arith, r .1, own-start, own-end)),
+          λ r. mem-range s (start i) (end i - start i) (r .0) (omega (arith, r .1, own-start, own-end)),
+        )
+
+    -- the slot of a job is asked for exactly if its first leaf lies in the span of the top of i
+    pub asked-slot : (j : ℕ) → j < jobs tb → (leb (askedFrom tb i) (slot tb j) && ltb (slot tb j) (askedTo tb i)) ≡ (leb (firstLeaf (tb .parents) (top tb i)) (bottomLeaf tb j) && leb (bottomLeaf tb j) (lastLeaf (tb .parents) (top tb i)))
+    asked-slot j h = rw (from-is, to-is) (slot-between i j h)
+
+    pub asked-bound : askedTo tb i ≤ jobs tb
+    asked-bound = rw to-is (left-bound (suc (lastLeaf (tb .parents) (top tb i))))
+
+    pub asks-itself : slot tb i < askedTo tb i
+    asks-itself = rw to-is own-end

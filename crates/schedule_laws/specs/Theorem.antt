@@ -1,0 +1,200 @@
+-- The schedule of an accepted table is sound and defines the table's own compatibility (000, Theorem 6, with slots and reach), so the greedy rule over it
+-- makes the plan, and its visits are the cell count.
+use Prim.Native.Nat.{ℕ, _<_, _≤_, _^_}
+use mathlib.Core.Path.{_≡_, refl, sym, ap, _∙_}
+use mathlib.Core.Logic.{_⊎_, ⊎-elim}
+use mathlib.Core.Bool.{Bool, true, false, cond, not, _&&_}
+use mathlib.Core.List.{List, map}
+use native.Mathlib.Omega.{arith}
+use native.Mathlib.Decide.{ℕ-discrete}
+use lib.ListN.{length, getD, take, length-map}
+use lib.Dec.{eqb, leb, ltb}
+use borrow.Author.Tests.{lt-ltb, ne-eqb, not-true, not-false}
+use Rattle.model.specs.Lists.{numbers, elem, indexOf, countWhere, total}
+use Rattle.model.specs.Tree.{FFFF, depth, firstLeaf, lastLeaf}
+use Rattle.model.specs.Jobs.{Table, jobs, top, bottom, solo, shares, topDepth, bottomLeaf}
+use Rattle.model.specs.Order.{runningOrder, slot}
+use Rattle.model.specs.Greedy.{Pass, pair, single, greedy, compatible, passes}
+use Rattle.model.specs.Visits.{levels, visits, askedFrom, askedTo, lookupVisits, passVisits, cellCount}
+use Rattle.model.specs.Planning.{pairCount, pairs}
+use Rattle.tree_laws.specs.Lists.{answers, pairwise-imply}
+use Rattle.tree_laws.specs.Numbers.{numbers-length, numbers-at, numbers-mem, numbers-rise}
+use Rattle.matching.specs.Places.{index-getD}
+use Rattle.matching.specs.RunningOrder.{slot-lt, slot-injective}
+use Rattle.matching.specs.Renamed.{renamed, greedy-renamed, pairs-renamed, total-renamed}
+use Rattle.schedule.specs.Schedule.{Schedule, places, slotAt, fromAt, toAt, dueAt, fits, passesByPlace, visitsAt, visitsOf, totalVisits, Sound}
+use Rattle.schedule.specs.OfTable.{jobAt, asking, bottomDepth, reachOrder, due, scheduleOf}
+use Rattle.jobs.specs.Accepted.{Accepted}
+use Rattle.schedule_laws.specs.Levels.{levels-wide}
+use Rattle.schedule_laws.specs.Counts.{count-bound}
+use Rattle.schedule_laws.specs.Places.{job-known, job-once, running-list, later-depth, theorem-6-ordered}
+use Rattle.schedule_laws.specs.Asked.{asked-slot, asked-bound, asks-itself}
+use Rattle.schedule_laws.specs.ReachOrder.{reachAt, reach-at, reach-length, reach-distinct, reached-at-turn, due-within, due-later, reached-in-time}
+
+regroup : (a b c : Bool) → (true && a && (c && b)) ≡ ((a && b) && c)
+regroup true true true = refl
+regroup true true false = refl
+regroup true false true = refl
+regroup true false false = refl
+regroup false b c = refl
+
+module _ (tb : Table) where
+  -- ---- what the schedule has at a place
+
+  pub places-are : places (scheduleOf tb) ≡ jobs tb
+  unfolding scheduleOf
+  places-are = length-map (numbers (jobs tb)) (λ (p : ℕ). slot tb (jobAt tb p)) ∙ numbers-length (jobs tb)
+
+  reached-is : scheduleOf tb .reached ≡ reachOrder tb
+  unfolding scheduleOf
+  reached-is = refl
+
+  -- those ask whose job is not solo
+  solo-false : (p : ℕ) → asking tb p ≡ true → solo tb (jobAt tb p) ≡ false
+  unfolding asking
+  solo-false p e = not-true (solo tb (jobAt tb p)) e
+
+  solo-true : (p : ℕ) → asking tb p ≡ false → solo tb (jobAt tb p) ≡ true
+  unfolding asking
+  solo-true p e = not-false (solo tb (jobAt tb p)) e
+
+  module _ (p : ℕ) (h : p < jobs tb) where
+    slot-is : slotAt (scheduleOf tb) p ≡ slot tb (jobAt tb p)
+    unfolding scheduleOf
+    slot-is = numbers-at (λ (p : ℕ). slot tb (jobAt tb p)) (jobs tb) p 0 h
+
+    from-at : fromAt (scheduleOf tb) p ≡ cond (asking tb p) (askedFrom tb (jobAt tb p)) FFFF
+    unfolding scheduleOf
+    from-at = numbers-at (λ (p : ℕ). cond (asking tb p) (askedFrom tb (jobAt tb p)) FFFF) (jobs tb) p 0 h
+
+    to-at : toAt (scheduleOf tb) p ≡ cond (asking tb p) (askedTo tb (jobAt tb p)) 0
+    unfolding scheduleOf
+    to-at = numbers-at (λ (p : ℕ). cond (asking tb p) (askedTo tb (jobAt tb p)) 0) (jobs tb) p 0 h
+
+    due-is : dueAt (scheduleOf tb) p ≡ due tb p
+    unfolding scheduleOf
+    due-is = numbers-at (due tb) (jobs tb) p 0 h
+
+  module _ (a : Accepted tb) where
+    -- a place that asks asks for its own slot, so its span does not end at 0
+    to-positive : (p : ℕ) → p < jobs tb → asking tb p ≡ true → 0 < toAt (scheduleOf tb) p
+    to-positive p h e = rw (to-at p h, e) (omega (arith, asks-itself tb a (jobAt tb p) (job-known tb p h)))
+
+    -- ---- it is sound
+
+    to-within : (p : ℕ) → p < jobs tb → toAt (scheduleOf tb) p ≤ 2 ^ levels (jobs tb)
+    to-within p h = ⊎-elim
+        (λ (e : asking tb p ≡ true). rw (to-at p h, e) (omega (arith, asked-bound tb a (jobAt tb p) (job-known tb p h), levels-wide (jobs tb))))
+        (λ (e : asking tb p ≡ false). rw (to-at p h, e) (omega arith))
+        (answers (asking tb p))
+
+    asks-none : (p : ℕ) → p < jobs tb → toAt (scheduleOf tb) p ≡ 0 → fromAt (scheduleOf tb) p ≡ FFFF
+    asks-none p h z = ⊎-elim
+        (λ (e : asking tb p ≡ true). absurd (omega (arith, to-positive p h e)))
+        (λ (e : asking tb p ≡ false). rw (from-at p h, e) refl)
+        (answers (asking tb p))
+
+    due-rise : (p q : ℕ) → p ≤ q → q < jobs tb → dueAt (scheduleOf tb) p ≤ dueAt (scheduleOf tb) q
+    due-rise p q l h = elim (ℕ-discrete p q) [
+      | yes same ↦ rw same (omega arith)
+      | no other ↦ rw (due-is p (omega arith), due-is q h) (due-later tb p q (omega arith) h)
+    ]
+
+    pub schedule-sound : Sound (scheduleOf tb)
+    schedule-sound =
+        record {
+          froms-length = unfold scheduleOf in length-map (numbers (jobs tb)) (λ (p : ℕ). cond (asking tb p) (askedFrom tb (jobAt tb p)) FFFF) ∙ sym (length-map (numbers (jobs tb)) (λ (p : ℕ). slot tb (jobAt tb p)));
+          tos-length = unfold scheduleOf in length-map (numbers (jobs tb)) (λ (p : ℕ). cond (asking tb p) (askedTo tb (jobAt tb p)) 0) ∙ sym (length-map (numbers (jobs tb)) (λ (p : ℕ). slot tb (jobAt tb p)));
+          dues-length = unfold scheduleOf in length-map (numbers (jobs tb)) (due tb) ∙ sym (length-map (numbers (jobs tb)) (λ (p : ℕ). slot tb (jobAt tb p)));
+          slot-inside = λ p h. rw (places-are, slot-is p (here p h)) (omega (arith, slot-lt tb (jobAt tb p) (job-known tb p (here p h)), levels-wide (jobs tb)));
+          slot-once = λ p q h k e. job-once tb p q (here p h) (here q k) (slot-injective tb (jobAt tb p) (jobAt tb q) (job-known tb p (here p h)) (job-known tb q (here q k)) (sym (slot-is p (here p h)) ∙ e ∙ slot-is q (here q k)));
+          to-inside = λ p h. rw places-are (to-within p (here p h));
+          asks-nobody = λ p h z. asks-none p (here p h) z;
+          due-inside = λ p h. rw (due-is p (here p h), reached-is) (due-within tb p);
+          due-rises = λ p q l h. due-rise p q l (here q h);
+          reached-length = rw (reached-is, places-are, reach-length tb) (count-bound (asking tb) (jobs tb));
+          reached-place = λ r h. rw (reached-is, places-are) (reach-at tb r (rw reached-is at h) .0);
+          reached-once = λ r t h k e. sym (index-getD (reachOrder tb) r 0 (reach-distinct tb) (rw reached-is at h)) ∙ ap (λ (p : ℕ). position p) (rw reached-is at e) ∙ index-getD (reachOrder tb) t 0 (reach-distinct tb) (rw reached-is at k);
+          reached-asks = λ r h. rw reached-is (let s = reach-at tb r (rw reached-is at h) in to-positive (reachAt tb r) (s .0) (s .1));
+          reached-by = λ r h. rw reached-is (let s = reach-at tb r (rw reached-is at h) in rw (due-is (reachAt tb r) (s .0)) (reached-in-time tb a r (rw reached-is at h)));
+        }
+      where
+        here : (p : ℕ) → p < places (scheduleOf tb) → p < jobs tb
+        here p h = rw places-are at h
+
+        position : ℕ → ℕ
+        position p = indexOf p (reachOrder tb)
+
+    -- ---- and defines compatibility
+
+    module _ (p q : ℕ) (l : p < q) (h : q < jobs tb) where
+      p-known : p < jobs tb
+      p-known = omega arith
+
+      -- a place that asks fits a later one that can be found, has its bottom deep enough, and its slot in the span
+      fits-asking : asking tb p ≡ true → fits (scheduleOf tb) p q ≡ ((asking tb q && leb (topDepth tb (jobAt tb p)) (bottomDepth tb q)) && (leb (askedFrom tb (jobAt tb p)) (slot tb (jobAt tb q)) && ltb (slot tb (jobAt tb q)) (askedTo tb (jobAt tb p))))
+      unfolding fits
+      fits-asking e =
+          let from : fromAt (scheduleOf tb) p ≡ askedFrom tb (jobAt tb p) = from-at p p-known ∙ rw e refl in
+          let to : toAt (scheduleOf tb) p ≡ askedTo tb (jobAt tb p) = to-at p p-known ∙ rw e refl in
+          rw (lt-ltb 0 (toAt (scheduleOf tb) p) (to-positive p p-known e), reached-is, due-is p p-known, reached-at-turn tb p q h, slot-is q h, from, to) refl
+
+      -- one that does not ask fits none
+      fits-silent : asking tb p ≡ false → fits (scheduleOf tb) p q ≡ false
+      unfolding fits
+      fits-silent e =
+          let to : toAt (scheduleOf tb) p ≡ 0 = to-at p p-known ∙ rw e refl in
+          rw to refl
+
+      shares-asked : shares tb (jobAt tb p) (jobAt tb q) ≡ (leb (askedFrom tb (jobAt tb p)) (slot tb (jobAt tb q)) && ltb (slot tb (jobAt tb q)) (askedTo tb (jobAt tb p)) && leb (topDepth tb (jobAt tb p)) (bottomDepth tb q))
+      unfolding bottomDepth
+      shares-asked =
+          rw (asked-slot tb a (jobAt tb p) (job-known tb p p-known) (jobAt tb q) (job-known tb q h))
+          (theorem-6-ordered tb a (jobAt tb p) (jobAt tb q) (job-known tb p p-known) (job-known tb q h) (later-depth tb p q l h))
+
+      compatible-is : compatible tb (jobAt tb p) (jobAt tb q) ≡ (asking tb p && asking tb q && shares tb (jobAt tb p) (jobAt tb q))
+      unfolding compatible asking
+      compatible-is = refl
+
+      pub schedule-fits : fits (scheduleOf tb) p q ≡ compatible tb (jobAt tb p) (jobAt tb q)
+      schedule-fits = ⊎-elim
+          (λ (e : asking tb p ≡ true). fits-asking e ∙ sym (compatible-is ∙ rw (e, shares-asked) (regroup (asking tb q) (leb (topDepth tb (jobAt tb p)) (bottomDepth tb q)) (leb (askedFrom tb (jobAt tb p)) (slot tb (jobAt tb q)) && ltb (slot tb (jobAt tb q)) (askedTo tb (jobAt tb p))))))
+          (λ (e : asking tb p ≡ false). fits-silent e ∙ sym (compatible-is ∙ rw e refl))
+          (answers (asking tb p))
+
+    -- ---- so the sweep over it makes the plan
+
+    pub schedule-passes : map (renamed (jobAt tb)) (passesByPlace (scheduleOf tb)) ≡ passes tb
+    unfolding passesByPlace passes
+    schedule-passes =
+        rw (places-are, running-list tb)
+        (greedy-renamed (jobAt tb) (fits (scheduleOf tb)) (compatible tb) (numbers (jobs tb))
+        (λ x y m n e. job-once tb x y (numbers-mem (jobs tb) m) (numbers-mem (jobs tb) n) e)
+        (pairwise-imply _<_ (λ (x y : ℕ). fits (scheduleOf tb) x y ≡ compatible tb (jobAt tb x) (jobAt tb y)) (numbers (jobs tb)) (λ x y m n l. schedule-fits x y l (numbers-mem (jobs tb) n)) (numbers-rise (jobs tb))))
+
+    pub schedule-pairs : total pairCount (passesByPlace (scheduleOf tb)) ≡ pairs tb
+    unfolding pairs
+    schedule-pairs = sym (pairs-renamed (jobAt tb) (passesByPlace (scheduleOf tb))) ∙ ap (total pairCount) schedule-passes
+
+    pub schedule-length : length (passesByPlace (scheduleOf tb)) ≡ length (passes tb)
+    schedule-length = sym (length-map (passesByPlace (scheduleOf tb)) (renamed (jobAt tb))) ∙ ap length schedule-passes
+
+    -- a lookup visits what it does in the table
+    visits-at : (p : ℕ) → p < jobs tb → visitsAt (scheduleOf tb) p ≡ lookupVisits tb (jobAt tb p)
+    unfolding visitsAt lookupVisits
+    visits-at p h = ⊎-elim
+        (λ (e : asking tb p ≡ true).
+        let from : fromAt (scheduleOf tb) p ≡ askedFrom tb (jobAt tb p) = from-at p h ∙ rw e refl in
+        let to : toAt (scheduleOf tb) p ≡ askedTo tb (jobAt tb p) = to-at p h ∙ rw e refl in
+        rw (ne-eqb (toAt (scheduleOf tb) p) 0 (λ z. omega (arith, to-positive p h e)), from, to, places-are, solo-false p e) refl)
+        (λ (e : asking tb p ≡ false).
+        let to : toAt (scheduleOf tb) p ≡ 0 = to-at p h ∙ rw e refl in
+        rw (to, solo-true p e) refl)
+        (answers (asking tb p))
+
+    pub schedule-visits : totalVisits (scheduleOf tb) ≡ cellCount tb
+    unfolding totalVisits cellCount passesByPlace visitsOf passVisits
+    schedule-visits =
+        total-renamed (jobAt tb) (fits (scheduleOf tb)) (visitsOf (scheduleOf tb)) (passVisits tb) (λ p q. refl) (λ p q. refl) (numbers (places (scheduleOf tb)))
+        (λ p m. visits-at p (rw places-are at (numbers-mem (places (scheduleOf tb)) m)))
+        ∙ ap (total (passVisits tb)) schedule-passes

@@ -1,0 +1,1 @@
+// Laws of the schedule of a table, in specs/; there is no code here.
