@@ -42,17 +42,17 @@ abbrev pub ReadOutcome : List ℕ → List ℕ → List ℕ → List ℕ → Lis
 ReadOutcome bytes parents tops bottoms marks =
     ReadAs (buffersVerdict (length parents) (length tops) (length bottoms) (length marks)) (readTable bytes) parents tops bottoms marks
 
--- *Plan* under its verdict v: partners, layouts, totals and work cells, and, where totals are given back, that no rival plan beats what was handed back
-pub record PlannedAs (v : Verdict) (tb : Table) (partners layouts work : List ℕ) (r : Planned) (partners′ layouts′ work′ : List ℕ) : Type 0 where
+-- *Plan* under its verdict v: partners, printed layouts, totals and work cells, and, where totals are given back, that no rival plan beats what was handed back
+pub record PlannedAs (v : Verdict) (tb : Table) (partners printed work : List ℕ) (r : Planned) (partners′ printed′ work′ : List ℕ) : Type 0 where
   pub answered : plannedAnswer r ≡ answer v (Planning.pairs tb ∷ Planning.singles tb ∷ cellCount tb ∷ [])
   pub partners-hold : partners′ ≡ lent v partners (Planning.partners tb ++ drop (jobs tb) partners)
-  pub layouts-hold : layouts′ ≡ lent v layouts (Planning.layouts tb ++ drop (jobs tb) layouts)
+  pub printed-hold : printed′ ≡ lent v printed (Planning.printedLayouts tb ++ drop (jobs tb) printed)
   pub work-holds : work′ ≡ lent v work (replicate Planning.workCells 0 ++ drop Planning.workCells work)
   pub maximum : (t : Totals) → r ≡ planned.Done t → MaximumAtEveryCut tb partners′ (t .pairs) (t .singles)
 
 abbrev pub PlanOutcome : List ℕ → List ℕ → List ℕ → List ℕ → List ℕ → List ℕ → List ℕ → Planned → List ℕ → List ℕ → List ℕ → Type 0
-PlanOutcome parents tops bottoms marks partners layouts work =
-    PlannedAs (Planning.planVerdict (tableOf parents tops bottoms marks) (length partners) (length layouts) (length work)) (tableOf parents tops bottoms marks) partners layouts work
+PlanOutcome parents tops bottoms marks partners printed work =
+    PlannedAs (Planning.planVerdict (tableOf parents tops bottoms marks) (length partners) (length printed) (length work)) (tableOf parents tops bottoms marks) partners printed work
 
 -- *Whole run*: the length answered, and the output as it is left
 pub record RunOutcome (input output : List ℕ) (r : ℕ) (output′ : List ℕ) : Type 0 where

@@ -17,12 +17,12 @@ workCells = 32768
 
 -- 8: tops, bottoms and marks of unequal length, a result shorter than tops, or too few work cells
 unfoldable pub lentVerdict : Table → ℕ → ℕ → ℕ → Verdict
-lentVerdict tb partners layouts work =
+lentVerdict tb partners printed work =
     refuseIf
     (not (eqb (jobs tb) (length (tb .bottoms)))
     || not (eqb (jobs tb) (length (tb .marks)))
     || ltb partners (jobs tb)
-    || ltb layouts (jobs tb)
+    || ltb printed (jobs tb)
     || ltb work workCells)
     8 0
 
@@ -34,8 +34,8 @@ jobsVerdict tb =
 
 -- the verdict of *Plan*, given the lengths of the results and of the work cells
 unfoldable pub planVerdict : Table → ℕ → ℕ → ℕ → Verdict
-planVerdict tb partners layouts work =
-    lentVerdict tb partners layouts work
+planVerdict tb partners printed work =
+    lentVerdict tb partners printed work
     then refuseIf (ltb layoutLimit (length (tb .parents)) || ltb jobLimit (jobs tb)) 3 0
     then treeVerdict (tb .parents)
     then jobsVerdict tb
@@ -64,8 +64,8 @@ module _ (tb : Table) where
   unfoldable pub printed : ℕ → ℕ
   printed j = cond (eqb (partnerIn (passes tb) j) FFFF) FFFF (deepestShared tb j (partnerIn (passes tb) j))
 
-  unfoldable pub layouts : List ℕ
-  layouts = map printed (numbers (jobs tb))
+  unfoldable pub printedLayouts : List ℕ
+  printedLayouts = map printed (numbers (jobs tb))
 
   unfoldable pub pairs : ℕ
   pairs = total pairCount (passes tb)

@@ -1,55 +1,61 @@
-// The pass planner (document 01, *Plan*): the greedy rule over the running order, by a sweep with lookups.
-mod jobs;
+// The pass planner (document 01, *Plan*): a table's schedule, the sweep over it, and the passes handed back by job number.
+mod hand_back;
 
+use jobs::JobCheck;
 use model::JobNumber;
-use model::LayoutNumber;
 use model::Planned;
 use model::Refusal;
 use model::Settled;
 use model::Totals;
-use orders::WORK;
+use schedule::WORK;
+use settle::TREE;
 ghost use mathlib.Core.Path.{_≡_};
-ghost use Prim.Native.Nat.{ℕ, _≤_};
+ghost use Prim.Native.Nat.{_≤_};
 ghost use lib.ListN.{length};
 ghost use Rattle.model.specs.Verdict.{refuses};
-ghost use Rattle.model.specs.Jobs.{tableOf};
+ghost use Rattle.model.specs.Jobs.{tableOf, jobLimit};
 ghost use Rattle.model.specs.Answers.{plannedAnswer};
-ghost use Rattle.model.specs.Planning.{jobsVerdict};
+ghost use Rattle.model.specs.Planning.{workCells, jobsVerdict};
 ghost use Rattle.model.specs.Outcomes.{PlannedAs, PlanOutcome};
 ghost use Rattle.settle.specs.Spanned.{Spanned};
-ghost use Rattle.orders.specs.Accepted.{Lent};
-ghost use Rattle.sweeping.specs.Steps.{Filling, Filled};
+ghost use Rattle.jobs.specs.Accepted.{Accepted, Lent};
+ghost use Rattle.planner.specs.Planned.{Room, Filled};
 
 // Plans an accepted table into results of one cell for each job; the work cells end as 0.
-fn fill_in(
+fn plan_accepted(
     parents: &[u16],
+    tree: &[u16; TREE],
     tops: &[u16],
     bottoms: &[u16],
     marks: &[u8],
-    depths: &[u16],
-    firsts: &[u16],
-    lasts: &[u16],
     partners: &mut [u16],
-    layouts: &mut [u16],
+    printed: &mut [u16],
     work: &mut [u16],
 ) -> Totals
-    requires { ⌜ Filling (now parents) (now tops) (now bottoms) (now marks) (now depths) (now firsts) (now lasts) (now partners) (now layouts) (now work) ⌝ }
-    ensures { λ r. ⌜ Filled (tableOf (now (parents .entry)) (now (tops .entry)) (now (bottoms .entry)) (now (marks .entry))) (r .pairs) (r .singles) (r .visits) (now (partners .exit)) (now (layouts .exit)) (now (work .exit)) ⌝ }
+    requires { ⌜ Accepted (tableOf (now parents) (now tops) (now bottoms) (now marks)) ⌝ }
+    requires { ⌜ Spanned (now parents) (now tree) ⌝ }
+    requires { ⌜ Room (length (now tops)) (now partners) (now printed) (now work) ⌝ }
+    ensures { λ r. ⌜ Filled (tableOf (now (parents .entry)) (now (tops .entry)) (now (bottoms .entry)) (now (marks .entry))) r (now (partners .exit)) (now (printed .exit)) (now (work .exit)) ⌝ }
 {
-    let totals = sweep::work_out(
+    let count = tops.len();
+    prepare::prepare(parents, tree, tops, bottoms, marks, work);
+    let matched = sweep::sweep(work, count);
+    let pairs = matched.pairs as usize;
+    hand_back::hand_back(
         parents,
-        tops,
+        tree,
         bottoms,
-        marks,
-        depths,
-        firsts,
-        lasts,
-        partners,
-        layouts,
         work,
+        count - pairs,
+        partners,
+        printed,
     );
     buffers::fill(work, 0);
-    totals
+    Totals {
+        pairs: matched.pairs,
+        singles: (count - 2 * pairs) as u16,
+        visits: matched.visits,
+    }
 }
 
 // The refusal of a call, with nothing written.
@@ -62,36 +68,32 @@ fn refuse(number: u16, place: u16) -> Planned
 // Plans a table whose layouts are settled, once its jobs are found right.
 fn plan_settled(
     parents: &[u16],
+    tree: &[u16; TREE],
     tops: &[u16],
     bottoms: &[u16],
     marks: &[u8],
-    depths: &[u16],
-    firsts: &[u16],
-    lasts: &[u16],
     partners: &mut [u16],
-    layouts: &mut [u16],
+    printed: &mut [u16],
     work: &mut [u16],
 ) -> Planned
-    requires { ⌜ Lent (tableOf (now parents) (now tops) (now bottoms) (now marks)) (length (now partners)) (length (now layouts)) (length (now work)) ⌝ }
-    requires { ⌜ length (now tops) ≤ 4096 ⌝ }
-    requires { ⌜ Spanned (now parents) (now depths) (now firsts) (now lasts) ⌝ }
-    ensures { λ r. ⌜ PlannedAs (jobsVerdict (tableOf (now (parents .entry)) (now (tops .entry)) (now (bottoms .entry)) (now (marks .entry)))) (tableOf (now (parents .entry)) (now (tops .entry)) (now (bottoms .entry)) (now (marks .entry))) (now (partners .entry)) (now (layouts .entry)) (now (work .entry)) r (now (partners .exit)) (now (layouts .exit)) (now (work .exit)) ⌝ }
+    requires { ⌜ Lent (tableOf (now parents) (now tops) (now bottoms) (now marks)) (length (now partners)) (length (now printed)) (length (now work)) ⌝ }
+    requires { ⌜ length (now tops) ≤ jobLimit ⌝ }
+    requires { ⌜ Spanned (now parents) (now tree) ⌝ }
+    ensures { λ r. ⌜ PlannedAs (jobsVerdict (tableOf (now (parents .entry)) (now (tops .entry)) (now (bottoms .entry)) (now (marks .entry)))) (tableOf (now (parents .entry)) (now (tops .entry)) (now (bottoms .entry)) (now (marks .entry))) (now (partners .entry)) (now (printed .entry)) (now (work .entry)) r (now (partners .exit)) (now (printed .exit)) (now (work .exit)) ⌝ }
 {
     let count = tops.len();
-    let check = jobs::check_jobs(parents.len(), tops, bottoms, depths, firsts, lasts);
+    let check = jobs::check_jobs(tree, parents.len(), tops, bottoms);
     match check {
-        jobs::JobCheck::Wrong(r) => Planned::Refused(r),
-        jobs::JobCheck::Right => {
-            let totals = fill_in(
+        JobCheck::Wrong(r) => Planned::Refused(r),
+        JobCheck::Right => {
+            let totals = plan_accepted(
                 parents,
+                tree,
                 tops,
                 bottoms,
                 marks,
-                depths,
-                firsts,
-                lasts,
                 &mut partners[..count],
-                &mut layouts[..count],
+                &mut printed[..count],
                 &mut work[..WORK],
             );
             Planned::Done(totals)
@@ -106,10 +108,10 @@ pub fn plan(
     bottoms: &[u16],
     marks: &[u8],
     partners: &mut [u16],
-    layouts: &mut [u16],
+    printed: &mut [u16],
     work: &mut [u16],
 ) -> Planned
-    ensures { λ r. ⌜ PlanOutcome (now (parents .entry)) (now (tops .entry)) (now (bottoms .entry)) (now (marks .entry)) (now (partners .entry)) (now (layouts .entry)) (now (work .entry)) r (now (partners .exit)) (now (layouts .exit)) (now (work .exit)) ⌝ }
+    ensures { λ r. ⌜ PlanOutcome (now (parents .entry)) (now (tops .entry)) (now (bottoms .entry)) (now (marks .entry)) (now (partners .entry)) (now (printed .entry)) (now (work .entry)) r (now (partners .exit)) (now (printed .exit)) (now (work .exit)) ⌝ }
 {
     let count = tops.len();
     if bottoms.len() != count {
@@ -121,35 +123,31 @@ pub fn plan(
     if partners.len() < count {
         return refuse(8, 0);
     }
-    if layouts.len() < count {
+    if printed.len() < count {
         return refuse(8, 0);
     }
     if work.len() < WORK {
         return refuse(8, 0);
     }
-    if LayoutNumber::LIMIT < parents.len() {
-        return refuse(3, 0);
-    }
     if JobNumber::LIMIT < count {
         return refuse(3, 0);
     }
-    let mut depths = [0u16; LayoutNumber::LIMIT];
-    let mut firsts = [0u16; LayoutNumber::LIMIT];
-    let mut lasts = [0u16; LayoutNumber::LIMIT];
-    let settled = settle::settle_layouts(parents, &mut depths, &mut firsts, &mut lasts);
-    match settled {
+    let checked = settle::check_layouts(parents);
+    match checked {
         Settled::Refused(r) => Planned::Refused(r),
-        Settled::Done => plan_settled(
-            parents,
-            tops,
-            bottoms,
-            marks,
-            &depths,
-            &firsts,
-            &lasts,
-            partners,
-            layouts,
-            work,
-        ),
+        Settled::Done => {
+            let mut tree = [0u16; TREE];
+            settle::settle_tree(parents, &mut tree);
+            plan_settled(
+                parents,
+                &tree,
+                tops,
+                bottoms,
+                marks,
+                partners,
+                printed,
+                work,
+            )
+        }
     }
 }

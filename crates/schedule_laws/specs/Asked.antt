@@ -2,7 +2,7 @@
 -- slots from the number of jobs left of the span up to the number of jobs left of its end.
 use Prim.Native.Nat.{ℕ, zero, suc, _+_, _-_, _<_, _≤_}
 use mathlib.Core.Path.{_≡_, refl, sym, ap, _∙_}
-use mathlib.Core.Logic.{_⊎_, ⊎-elim, _↔_}
+use mathlib.Core.Logic.{⊎-elim, _↔_}
 use mathlib.Core.Bool.{Bool, true, _&&_, and-false}
 use mathlib.Core.List.{List, [], _∷_, headD, List·Memᴰ as Mem}
 use native.Mathlib.Omega.{arith}
@@ -103,7 +103,7 @@ module _ (tb : Table) where
       (count-le (λ (i : ℕ). ltb (bottomLeaf tb i) x) (λ (i : ℕ). leftward tb i j) (jobs tb)
       (λ u k e. leaf-leftward u j (omega (arith, ltb-true (bottomLeaf tb u) x e))))
 
-  pub left-bound : (x : ℕ) → leftOf x ≤ jobs tb
+  left-bound : (x : ℕ) → leftOf x ≤ jobs tb
   unfolding leftOf
   left-bound x = count-bound (λ (j : ℕ). ltb (bottomLeaf tb j) x) (jobs tb)
 

@@ -1,8 +1,8 @@
 -- The order in which the sweep reaches the bottoms, and how far it has come at a turn: the places reached are those that ask and whose bottoms are as deep
 -- as the top at hand.
-use Prim.Native.Nat.{ℕ, zero, suc, _<_, _≤_}
+use Prim.Native.Nat.{ℕ, suc, _<_, _≤_}
 use mathlib.Core.Path.{_≡_, refl, sym, ap, _∙_}
-use mathlib.Core.Logic.{_⊎_, ⊎-elim, _≢_}
+use mathlib.Core.Logic.{⊎-elim, _≢_}
 use mathlib.Core.Bool.{Bool, true, false, _&&_}
 use mathlib.Core.List.{List, [], _∷_, List·Memᴰ as Mem}
 use native.Mathlib.Omega.{arith}
@@ -11,7 +11,6 @@ use lib.ListN.{length, getD, take}
 use lib.Dec.{leb}
 use borrow.Author.Tests.{le-leb, leb-true}
 use Rattle.model.specs.Lists.{numbers, elem, indexOf, select, countWhere, All, AllPairs}
-use Rattle.model.specs.Tree.{depth}
 use Rattle.model.specs.Jobs.{Table, jobs, topDepth}
 use Rattle.tree_laws.specs.Lists.{Distinct, answers, same-test, all-mem, mem-all, elem-mem, mem-elem, select-mem, mem-select, select-pairwise, getD-mem, pairwise-imply}
 use Rattle.tree_laws.specs.Numbers.{mem-numbers, numbers-mem, numbers-distinct}
@@ -23,11 +22,11 @@ use Rattle.matching.specs.Sorting.{StrictOrder, Before, sort-mem, mem-sort, sor
 use Rattle.matching.specs.RunningOrder.{lexicographic-true, lexicographic-asymmetric, lexicographic-falling, lexicographic-total}
 use Rattle.schedule.specs.OfTable.{jobAt, asking, bottomDepth, sooner, reachOrder, due}
 use Rattle.jobs.specs.Accepted.{Accepted}
-use Rattle.schedule_laws.specs.Counts.{count-within, count-bound, count-implies}
+use Rattle.schedule_laws.specs.Counts.{count-within, count-implies}
 use Rattle.schedule_laws.specs.Places.{job-known, later-depth}
 
 -- where a test passes for a leading part of a list only, that part is what it selects
-pub leading-part : (test : ℕ → Bool) (l : List ℕ) → AllPairs (λ (x y : ℕ). test y ≡ true → test x ≡ true) l → take (countWhere test l) l ≡ select test l
+leading-part : (test : ℕ → Bool) (l : List ℕ) → AllPairs (λ (x y : ℕ). test y ≡ true → test x ≡ true) l → take (countWhere test l) l ≡ select test l
 unfolding countWhere select
 leading-part test [] s = refl
 leading-part test (x ∷ xs) s = ⊎-elim
@@ -62,7 +61,7 @@ module _ (tb : Table) where
   sooner-depth p q e = ⊎-elim (λ h. omega arith) (λ h. omega arith) (lexicographic-true (bottomDepth tb q) (bottomDepth tb p) p q e)
 
   -- the places that can be found, before they are put in order
-  abbrev pub findable : List ℕ
+  abbrev findable : List ℕ
   findable = select (asking tb) (numbers (jobs tb))
 
   findable-known : All (λ (p : ℕ). p < jobs tb) findable
@@ -72,7 +71,7 @@ module _ (tb : Table) where
   findable-distinct = select-pairwise (asking tb) (λ (x y : ℕ). x ≢ y) (numbers (jobs tb)) (numbers-distinct (jobs tb))
 
   -- they are places that ask
-  pub reach-mem : {p : ℕ} → Mem p (reachOrder tb) → (p < jobs tb) × (asking tb p ≡ true)
+  reach-mem : {p : ℕ} → Mem p (reachOrder tb) → (p < jobs tb) × (asking tb p ≡ true)
   unfolding reachOrder
   reach-mem m = let s = select-mem (asking tb) (numbers (jobs tb)) (sort-mem (sooner tb) findable m) in (numbers-mem (jobs tb) (s .0), s .1)
 
@@ -85,7 +84,7 @@ module _ (tb : Table) where
   unfolding reachOrder
   reach-length = sort-length (sooner tb) findable ∙ sym (count-length (asking tb) (numbers (jobs tb)))
 
-  pub reach-sorted : AllPairs (Before (sooner tb)) (reachOrder tb)
+  reach-sorted : AllPairs (Before (sooner tb)) (reachOrder tb)
   unfolding reachOrder
   reach-sorted = sort-sorted (λ (p : ℕ). p < jobs tb) (sooner tb) sooner-order findable findable-known findable-distinct
 

@@ -2,27 +2,27 @@
 -- makes the plan, and its visits are the cell count.
 use Prim.Native.Nat.{ℕ, _<_, _≤_, _^_}
 use mathlib.Core.Path.{_≡_, refl, sym, ap, _∙_}
-use mathlib.Core.Logic.{_⊎_, ⊎-elim}
-use mathlib.Core.Bool.{Bool, true, false, cond, not, _&&_}
-use mathlib.Core.List.{List, map}
+use mathlib.Core.Logic.{⊎-elim}
+use mathlib.Core.Bool.{Bool, true, false, cond, _&&_}
+use mathlib.Core.List.{map}
 use native.Mathlib.Omega.{arith}
 use native.Mathlib.Decide.{ℕ-discrete}
-use lib.ListN.{length, getD, take, length-map}
-use lib.Dec.{eqb, leb, ltb}
+use lib.ListN.{length, length-map}
+use lib.Dec.{leb, ltb}
 use borrow.Author.Tests.{lt-ltb, ne-eqb, not-true, not-false}
-use Rattle.model.specs.Lists.{numbers, elem, indexOf, countWhere, total}
-use Rattle.model.specs.Tree.{FFFF, depth, firstLeaf, lastLeaf}
-use Rattle.model.specs.Jobs.{Table, jobs, top, bottom, solo, shares, topDepth, bottomLeaf}
-use Rattle.model.specs.Order.{runningOrder, slot}
-use Rattle.model.specs.Greedy.{Pass, pair, single, greedy, compatible, passes}
-use Rattle.model.specs.Visits.{levels, visits, askedFrom, askedTo, lookupVisits, passVisits, cellCount}
+use Rattle.model.specs.Lists.{numbers, indexOf, total}
+use Rattle.model.specs.Tree.{FFFF}
+use Rattle.model.specs.Jobs.{Table, jobs, solo, shares, topDepth}
+use Rattle.model.specs.Order.{slot}
+use Rattle.model.specs.Greedy.{compatible, passes}
+use Rattle.model.specs.Visits.{levels, askedFrom, askedTo, lookupVisits, passVisits, cellCount}
 use Rattle.model.specs.Planning.{pairCount, pairs}
 use Rattle.tree_laws.specs.Lists.{answers, pairwise-imply}
 use Rattle.tree_laws.specs.Numbers.{numbers-length, numbers-at, numbers-mem, numbers-rise}
 use Rattle.matching.specs.Places.{index-getD}
 use Rattle.matching.specs.RunningOrder.{slot-lt, slot-injective}
 use Rattle.matching.specs.Renamed.{renamed, greedy-renamed, pairs-renamed, total-renamed}
-use Rattle.schedule.specs.Schedule.{Schedule, places, slotAt, fromAt, toAt, dueAt, fits, passesByPlace, visitsAt, visitsOf, totalVisits, Sound}
+use Rattle.schedule.specs.Schedule.{places, slotAt, fromAt, toAt, dueAt, fits, passesByPlace, visitsAt, visitsOf, totalVisits, Sound}
 use Rattle.schedule.specs.OfTable.{jobAt, asking, bottomDepth, reachOrder, due, scheduleOf}
 use Rattle.jobs.specs.Accepted.{Accepted}
 use Rattle.schedule_laws.specs.Levels.{levels-wide}

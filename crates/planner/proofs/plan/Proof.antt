@@ -1,15 +1,28 @@
-use native.Mathlib.Omega.{arith}
-use borrow.Author.Needs.{needs}
-use mathlib.Core.Path.{sym, refl, ap}
+-- `planner::plan` meets its contract: each refusal has its ground, and with none the table is planned.
+use mathlib.Core.Path.{refl, sym, ap}
 use lib.ListN.{length}
 use Rattle.model.specs.Jobs.{tableOf}
 use Rattle.model.specs.Answers.{settledAnswer}
-use Rattle.orders.specs.Accepted.{Lent}
-use Rattle.orders.specs.PlanVerdict.{unequal-bottoms, unequal-marks, short-partners, short-layouts, short-work, many-layouts, many-jobs, wrong-tree, right-tree}
-use Rattle.planner.specs.Settling.{settled-wrong, settled-right, settled-spanned}
-use Rattle.planner.specs.PlanLaws.{refused-as}
+use Rattle.settle.specs.Checked.{checked-refused, checked-accepted, checked-tree}
+use Rattle.jobs.specs.Accepted.{Lent}
+use Rattle.planner.specs.Planned.{refused-as}
+use Rattle.jobs.specs.PlanVerdict.{unequal-bottoms, unequal-marks, short-partners, short-printed, short-work, many-jobs, wrong-layouts, right-layouts}
+use borrow.Author.Needs.{needs}
 use Rattle.planner.proofs.plan.Statement.{statement}
 use Rattle.planner.proofs.plan.Tie as tie
+use Rattle.settle.proofs.check_layouts.Reads as check-layouts-reads
+use Rattle.settle.proofs.settle_tree.Reads as settle-tree-reads
+
+-- the buffers are as they should be
+lent-of : (c : tie.Else5) → Lent (tableOf (c .before .before .before .before .before .before .before .before .before .before .before .before .args .parents .now) (c .before .before .before .before .before .before .before .before .before .before .before .before .args .tops .now) (c .before .before .before .before .before .before .before .before .before .before .before .before .args .bottoms .now) (c .before .before .before .before .before .before .before .before .before .before .before .before .args .marks .now)) (length (c .before .before .before .before .before .before .before .before .before .before .before .before .args .partners .now)) (length (c .before .before .before .before .before .before .before .before .before .before .before .before .args .printed .now)) (length (c .before .before .before .before .before .before .before .before .before .before .before .before .args .work .now))
+lent-of c =
+    record {
+      bottoms-length = sym (c .before .before .before .before .if1 .left);
+      marks-length = sym (c .before .before .before .if2 .left);
+      partners-room = c .before .before .if3 .left;
+      printed-room = c .before .if4 .left;
+      work-room = c .if5 .left;
+    }
 
 refuse-requires : tie.Need-refuse-requires
 refuse-requires c κs = search needs
@@ -33,7 +46,7 @@ refuse-requires-4 : tie.Need-refuse-requires-4
 refuse-requires-4 c κs = search needs
 
 returns-4 : tie.Need-returns-4
-returns-4 c = refused-as _ _ _ _ _ _ 8 0 (short-layouts _ _ _ _ (sym (c .before .before .before .before .if1 .left)) (sym (c .before .before .before .if2 .left)) (c .before .before .if3 .left) (c .before .if4 .taken)) (c .refuse4 .ensures)
+returns-4 c = refused-as _ _ _ _ _ _ 8 0 (short-printed _ _ _ _ (sym (c .before .before .before .before .if1 .left)) (sym (c .before .before .before .if2 .left)) (c .before .before .if3 .left) (c .before .if4 .taken)) (c .refuse4 .ensures)
 
 refuse-requires-5 : tie.Need-refuse-requires-5
 refuse-requires-5 c κs = search needs
@@ -44,68 +57,28 @@ returns-5 c = refused-as _ _ _ _ _ _ 8 0 (short-work _ _ _ _ (sym (c .before .be
 refuse-requires-6 : tie.Need-refuse-requires-6
 refuse-requires-6 c κs = search needs
 
--- the buffers are as they should be
-lent-of : (c : tie.Else5) → Lent (tableOf (c .before .before .before .before .before .before .before .before .before .before .before .before .args .parents .now) (c .before .before .before .before .before .before .before .before .before .before .before .before .args .tops .now) (c .before .before .before .before .before .before .before .before .before .before .before .before .args .bottoms .now) (c .before .before .before .before .before .before .before .before .before .before .before .before .args .marks .now)) (length (c .before .before .before .before .before .before .before .before .before .before .before .before .args .partners .now)) (length (c .before .before .before .before .before .before .before .before .before .before .before .before .args .layouts .now)) (length (c .before .before .before .before .before .before .before .before .before .before .before .before .args .work .now))
-lent-of c =
-    record {
-      bottoms-length = sym (c .before .before .before .before .if1 .left);
-      marks-length = sym (c .before .before .before .if2 .left);
-      partners-room = c .before .before .if3 .left;
-      layouts-room = c .before .if4 .left;
-      work-room = c .if5 .left;
-    }
-
 returns-6 : tie.Need-returns-6
-returns-6 c = refused-as _ _ _ _ _ _ 3 0 (many-layouts _ _ _ _ (lent-of (c .before .before)) (c .before .if6 .taken)) (c .refuse6 .ensures)
+returns-6 c = refused-as _ _ _ _ _ _ 3 0 (many-jobs _ _ _ _ (lent-of (c .before .before)) (c .before .if6 .taken)) (c .refuse6 .ensures)
 
-refuse-requires-7 : tie.Need-refuse-requires-7
-refuse-requires-7 c κs = search needs
+check-layouts-requires : tie.Need-check-layouts-requires
+check-layouts-requires c κs = search needs
 
-returns-7 : tie.Need-returns-7
-returns-7 c = refused-as _ _ _ _ _ _ 3 0 (many-jobs _ _ _ _ (lent-of (c .before .before .before)) (c .before .if7 .taken)) (c .refuse7 .ensures)
-
-slice-aggregate-settle-layouts : tie.Need-slice-aggregate-settle-layouts
-slice-aggregate-settle-layouts c = search needs
-
-slice-aggregate-settle-layouts-2 : tie.Need-slice-aggregate-settle-layouts-2
-slice-aggregate-settle-layouts-2 c = search needs
-
-slice-aggregate-settle-layouts-3 : tie.Need-slice-aggregate-settle-layouts-3
-slice-aggregate-settle-layouts-3 c = search needs
-
-settle-layouts-requires : tie.Need-settle-layouts-requires
-settle-layouts-requires c κs = search needs
-
-enum-known-settled : tie.Need-enum-known-settled
-enum-known-settled c = search needs
+enum-known-checked : tie.Need-enum-known-checked
+enum-known-checked c = search needs
 
 enum-told : tie.Need-enum-told
 enum-told c = search needs
 
-slice-aggregate-plan-settled : tie.Need-slice-aggregate-plan-settled
-slice-aggregate-plan-settled c = search needs
-
-slice-aggregate-plan-settled-2 : tie.Need-slice-aggregate-plan-settled-2
-slice-aggregate-plan-settled-2 c = search needs
-
-slice-aggregate-plan-settled-3 : tie.Need-slice-aggregate-plan-settled-3
-slice-aggregate-plan-settled-3 c = search needs
+settle-tree-requires : tie.Need-settle-tree-requires
+settle-tree-requires c κs = (checked-tree _ _ (c .before .before .before .check-layouts .ensures) (ap settledAnswer (c .before .enum-told .given .1)), search needs)
 
 plan-settled-requires : tie.Need-plan-settled-requires
-plan-settled-requires c κs =
-    let small = c .before .before .before .before .before .before .before .before .before .before .before .before .before .before .before .before .if6 .left in (
-      lent-of (c .before .before .before .before .before .before .before .before .before .before .before .before .before .before .before .before .before),
-      (
-        c .before .before .before .before .before .before .before .before .before .before .before .before .before .before .before .if7 .left,
-        settled-spanned _ _ _ _ small (omega arith) (omega arith) (omega arith) _ _ _ _ (c .before .before .before .before .before .before .before .before .before .before .before .settle-layouts .ensures) (ap settledAnswer (c .before .before .before .before .before .before .enum-told .given .1)),
-      ),
-    )
+plan-settled-requires c κs = (lent-of (c .before .before .before .before .before .before .before .before .before .before), (c .before .before .before .before .before .before .before .before .before .if6 .left, c .before .before .before .before .settle-tree .ensures))
 
-returns-8 : tie.Need-returns-8
-returns-8 c =
-    let small = c .before .before .before .before .before .before .before .before .before .before .before .if6 .left in
-    let wrong = settled-wrong _ _ _ _ small (omega arith) (omega arith) (omega arith) _ _ _ _ (c .before .before .before .before .before .before .settle-layouts .ensures) _ _ (ap settledAnswer (c .before .settled .given .1)) in
-    refused-as _ _ _ _ _ _ _ _ (wrong-tree _ _ _ _ (lent-of (c .before .before .before .before .before .before .before .before .before .before .before .before)) small (c .before .before .before .before .before .before .before .before .before .before .if7 .left) _ _ wrong) refl
+returns-7 : tie.Need-returns-7
+returns-7 c = 
+    refused-as _ _ _ _ _ _ _ _
+    (wrong-layouts _ _ _ _ (lent-of (c .before .before .before .before .before)) (c .before .before .before .before .if6 .left) _ _ (checked-refused (c .before .before .before .before .before .before .before .before .before .before .before .before .before .before .before .before .before .args .parents .now) (settledAnswer (c .before .before .before .check-layouts .result)) (c .before .before .before .check-layouts .ensures) _ _ (ap settledAnswer (c .before .checked .given .1)))) refl
 
 same-length : tie.Need-same-length
 same-length c = search needs
@@ -116,11 +89,9 @@ same-length-2 c = search needs
 same-length-3 : tie.Need-same-length-3
 same-length-3 c = search needs
 
-returns-9 : tie.Need-returns-9
-returns-9 c =
-    let small = c .before .before .before .before .before .before .before .before .before .before .before .before .before .before .before .before .before .before .before .before .before .before .before .if6 .left in
-    let right = settled-right _ _ _ _ small (omega arith) (omega arith) (omega arith) _ _ _ _ (c .before .before .before .before .before .before .before .before .before .before .before .before .before .before .before .before .before .before .settle-layouts .ensures) (ap settledAnswer (c .before .before .before .before .before .before .before .before .before .before .before .before .before .enum-told .given .1)) in
-    rw (right-tree _ _ _ _ (lent-of (c .before .before .before .before .before .before .before .before .before .before .before .before .before .before .before .before .before .before .before .before .before .before .before .before)) small (c .before .before .before .before .before .before .before .before .before .before .before .before .before .before .before .before .before .before .before .before .before .before .if7 .left) right) (c .before .before .before .before .before .before .plan-settled .ensures)
+returns-8 : tie.Need-returns-8
+returns-8 c = 
+    rw (right-layouts _ _ _ _ (lent-of (c .before .before .before .before .before .before .before .before .before .before .before .before .before .before .before .before .before)) (c .before .before .before .before .before .before .before .before .before .before .before .before .before .before .before .before .if6 .left) (checked-accepted (c .before .before .before .before .before .before .before .before .before .before .before .before .before .before .before .before .before .before .before .before .before .before .before .before .before .before .before .before .before .args .parents .now) (settledAnswer (c .before .before .before .before .before .before .before .before .before .before .before .before .before .before .before .check-layouts .result)) (c .before .before .before .before .before .before .before .before .before .before .before .before .before .before .before .check-layouts .ensures) (ap settledAnswer (c .before .before .before .before .before .before .before .before .before .before .before .before .before .enum-told .given .1)))) (c .before .before .before .before .before .before .plan-settled .ensures)
 
 pub plan-spec : {M : Type 1} → statement M
 plan-spec =
@@ -138,20 +109,13 @@ plan-spec =
     returns-5
     refuse-requires-6
     returns-6
-    refuse-requires-7
-    returns-7
-    slice-aggregate-settle-layouts
-    slice-aggregate-settle-layouts-2
-    slice-aggregate-settle-layouts-3
-    settle-layouts-requires
-    enum-known-settled
+    check-layouts-requires
+    enum-known-checked
     enum-told
-    slice-aggregate-plan-settled
-    slice-aggregate-plan-settled-2
-    slice-aggregate-plan-settled-3
+    settle-tree-requires
     plan-settled-requires
-    returns-8
+    returns-7
     same-length
     same-length-2
     same-length-3
-    returns-9)
+    returns-8)

@@ -1,0 +1,59 @@
+-- `planner::hand_back::write_pass` meets its contract: the cells of its jobs are set.
+use mathlib.Core.Path.{_∙_}
+use native.Mathlib.Omega.{arith}
+use borrow.Author.Needs.{needs}
+use Rattle.planner.proofs.hand_back.write_pass.Statement.{statement}
+use Rattle.planner.proofs.hand_back.write_pass.Tie as tie
+
+enum-known-pass : tie.Need-enum-known-pass
+enum-known-pass c = search needs
+
+set-partners-requires : tie.Need-set-partners-requires
+set-partners-requires c κs = rw (c .before .before .pass .given .1) at (c .before .before .before .before .before .before .pre .0)
+
+set-printed-requires : tie.Need-set-printed-requires
+set-printed-requires c κs = let inside = rw (c .before .before .before .before .before .before .pass .given .1) at (c .before .before .before .before .before .before .before .before .before .before .pre .0) in let same = c .before .before .before .before .before .before .before .before .before .before .pre .1 in (omega (arith, inside .0, same), omega (arith, inside .1, same))
+
+enum-known-pass-2 : tie.Need-enum-known-pass-2
+enum-known-pass-2 c = search needs
+
+set-absent-requires : tie.Need-set-absent-requires
+set-absent-requires c κs = rw (c .before .before .pass2 .given .1) at (c .before .before .before .before .before .before .pre .0)
+
+set-absent-requires-2 : tie.Need-set-absent-requires-2
+set-absent-requires-2 c κs = let inside = rw (c .before .before .before .before .before .before .pass2 .given .1) at (c .before .before .before .before .before .before .before .before .before .before .pre .0) in let same = c .before .before .before .before .before .before .before .before .before .before .pre .1 in omega (arith, inside, same)
+
+same-length : tie.Need-same-length
+same-length c = search needs
+
+same-length-2 : tie.Need-same-length-2
+same-length-2 c = search needs
+
+returns : tie.Need-returns
+returns c = rw (c .before .before .before .before .before .before .before .before .before .pass .given .1) (c .before .before .before .before .before .before .set-partners .ensures, c .before .before .set-printed .ensures)
+
+same-length-3 : tie.Need-same-length-3
+same-length-3 c = search needs
+
+same-length-4 : tie.Need-same-length-4
+same-length-4 c = search needs
+
+returns-2 : tie.Need-returns-2
+returns-2 c = rw (c .before .before .before .before .before .before .before .before .before .pass2 .given .1) (c .before .before .before .before .before .before .set-absent .ensures, c .before .before .set-absent2 .ensures)
+
+pub write-pass-spec : {M : Type 1} → statement M
+write-pass-spec =
+    tie.close
+    (tie.spec
+    enum-known-pass
+    set-partners-requires
+    set-printed-requires
+    enum-known-pass-2
+    set-absent-requires
+    set-absent-requires-2
+    same-length
+    same-length-2
+    returns
+    same-length-3
+    same-length-4
+    returns-2)

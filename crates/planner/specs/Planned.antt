@@ -1,0 +1,142 @@
+-- The outcome of *Plan*: refused with nothing changed, or the plan in the results, which no rival beats.
+use Prim.Native.Nat.{ℕ, _+_, _-_, _*_, _^_, _≤_, _<_}
+use mathlib.Core.Path.{_≡_, refl, sym, ap, _∙_}
+use mathlib.Core.List.{List, _++_}
+use native.Mathlib.Omega.{arith}
+use lib.ListN.{length, take, drop, replicate}
+use lib.Seq.{length-take-le}
+use Rattle.model.specs.Verdict.{Verdict, accepted, refused, refuses}
+use Rattle.model.specs.Jobs.{Table, tableOf, jobs, jobLimit}
+use Rattle.model.specs.Greedy.{passes}
+use Rattle.model.specs.Visits.{levels, cellCount}
+use Rattle.model.specs.Planning as Planning
+use Rattle.model.specs.Planning.{workCells, jobsVerdict}
+use Rattle.model.specs.Answers.{plannedAnswer}
+use Rattle.model.specs.Outcomes.{PlannedAs}
+use Rattle.model.specs.declared.Planned.{Planned}
+use Rattle.model.specs.declared.Planned.the-variants as planned
+use Rattle.model.specs.declared.Refusal.{Refusal}
+use Rattle.model.specs.declared.Totals.{Totals}
+use Rattle.matching.specs.Partners.{jobs-counted, passes-length}
+use Rattle.matching.specs.MaximumAtEveryCut.{our-plan-maximum}
+use Rattle.settle.specs.Spanned.{Spanned}
+use Rattle.jobs.specs.Accepted.{Accepted, Lent, table-accepted}
+use Rattle.jobs.specs.Checks.{checkVerdict}
+use Rattle.jobs.specs.declared.JobCheck.{JobCheck}
+use Rattle.jobs.specs.declared.JobCheck.the-variants as check
+use Rattle.schedule.specs.InWork.{Swept}
+use Rattle.schedule.specs.OfTable.{Prepared}
+use Rattle.schedule_laws.specs.Theorem.{schedule-sound}
+use Rattle.sweep_laws.specs.Room.{sweep-room}
+use Rattle.sweep_laws.specs.Sweeping.{Sweepable}
+use Rattle.passes.specs.OfTable.{swept-plan, swept-pairs, swept-visits}
+use Rattle.planner.specs.HandBack.{Plan, Returned}
+
+-- results of one cell for each of n jobs, and the work cells
+pub record Room (n : ℕ) (partners printed work : List ℕ) : Type 0 where
+  pub partners-length : length partners ≡ n
+  pub printed-length : length printed ≡ n
+  pub work-length : length work ≡ workCells
+
+-- the plan of the table is in the results, with its totals, and the work cells are 0
+pub record Filled (tb : Table) (t : Totals) (partners printed work : List ℕ) : Type 0 where
+  pub pairs-are : t .pairs ≡ Planning.pairs tb
+  pub singles-are : t .singles ≡ Planning.singles tb
+  pub visits-are : t .visits ≡ cellCount tb
+  pub partners-are : partners ≡ Planning.partners tb
+  pub printed-are : printed ≡ Planning.printedLayouts tb
+  pub work-is : work ≡ replicate workCells 0
+
+-- ---- the steps of planning
+
+module _ (tb : Table) (a : Accepted tb) where
+  -- the prepared work cells can be swept
+  pub ready : (work : List ℕ) → length work ≡ workCells → Prepared tb work → Sweepable (jobs tb) work
+  ready work room p =
+      record {
+        few = a .few;
+        room = omega (arith, room, sweep-room (jobs tb) 12 (a .few));
+        sound = rw (p .schedule-is) (schedule-sound tb a);
+      }
+
+  module _ (ps tree bottoms old new : List ℕ) (parents-are : tb .parents ≡ ps) (bottoms-are : tb .bottoms ≡ bottoms) (s : Spanned ps tree)
+      (room : length old ≡ workCells) (p : Prepared tb old) (pairs visits : ℕ) (w : Swept (jobs tb) old pairs visits new) where
+    pub pairs-are : pairs ≡ Planning.pairs tb
+    pairs-are = swept-pairs tb a old new pairs visits p w
+
+    pub visits-are : visits ≡ cellCount tb
+    visits-are = swept-visits tb a old new pairs visits p w
+
+    -- as many passes as jobs less pairs, and two jobs to a pair
+    pub pairs-few : 2 * pairs ≤ jobs tb
+    pairs-few = omega (arith, pairs-are, jobs-counted tb)
+
+    pub plan-left : Plan tb ps tree bottoms new (jobs tb - pairs)
+    plan-left =
+        record {
+          parents-are = parents-are;
+          bottoms-are = bottoms-are;
+          table = a;
+          spanned = s;
+          plan = swept-plan tb a old new pairs visits (omega (arith, room, a .few)) p w;
+          count-is = omega (arith, pairs-are, jobs-counted tb, passes-length tb);
+        }
+
+    pub filled : (t : Totals) (partners printed work : List ℕ) → t .pairs ≡ pairs → t .singles ≡ jobs tb - 2 * pairs → t .visits ≡ visits → Returned tb partners printed → work ≡ replicate workCells 0 → Filled tb t partners printed work
+    filled t partners printed work tp ts tv r e =
+        record {
+          pairs-are = tp ∙ pairs-are;
+          singles-are = ts ∙ omega (arith, pairs-are, jobs-counted tb);
+          visits-are = tv ∙ visits-are;
+          partners-are = r .partners-are;
+          printed-are = r .printed-are;
+          work-is = e;
+        }
+
+-- ---- outcomes
+
+-- a refusal changes nothing lent
+module _ (tb : Table) (partners printed work : List ℕ) (r : Planned) where
+  pub refused-as : (v : Verdict) (number place : ℕ) → v ≡ refused number place → plannedAnswer r ≡ refuses number place → PlannedAs v tb partners printed work r partners printed work
+  refused-as v number place e a =
+      record {
+        answered = rw e a;
+        partners-hold = rw e refl;
+        printed-hold = rw e refl;
+        work-holds = rw e refl;
+        maximum = λ t done. let apart : _≡_ {A = ℕ} 0 1 = cc in absurd (omega arith);
+      }
+
+-- the job check refuses
+pub refused-job : (tb : Table) (partners printed work : List ℕ) (c : JobCheck) (g : Refusal) → jobsVerdict tb ≡ checkVerdict c → c ≡ check.Wrong g → PlannedAs (jobsVerdict tb) tb partners printed work (planned.Refused g) partners printed work
+refused-job tb partners printed work c g e is =
+    refused-as tb partners printed work (planned.Refused g) (jobsVerdict tb) (g .number) (g .place) (e ∙ ap checkVerdict is) refl
+
+-- the job check accepts
+module _ (ps ts bs ms tree partners printed work : List ℕ) (lent : Lent (tableOf ps ts bs ms) (length partners) (length printed) (length work)) (few : length ts ≤ jobLimit) (s : Spanned ps tree) (c : JobCheck) (e : jobsVerdict (tableOf ps ts bs ms) ≡ checkVerdict c) (is : c ≡ check.Right) where
+  abbrev tb : Table
+  tb = tableOf ps ts bs ms
+
+  accepts : jobsVerdict (tableOf ps ts bs ms) ≡ accepted
+  accepts = e ∙ ap checkVerdict is
+
+  pub right : Accepted (tableOf ps ts bs ms)
+  right = table-accepted tb (s .tree) few (sym (lent .bottoms-length)) (sym (lent .marks-length)) accepts
+
+  pub room : Room (length ts) (take (length ts) partners) (take (length ts) printed) (take workCells work)
+  room =
+      record {
+        partners-length = length-take-le (length ts) partners (lent .partners-room);
+        printed-length = length-take-le (length ts) printed (lent .printed-room);
+        work-length = length-take-le workCells work (lent .work-room);
+      }
+
+  pub planned-as : (t : Totals) (partners′ printed′ work′ : List ℕ) → Filled (tableOf ps ts bs ms) t partners′ printed′ work′ → PlannedAs (jobsVerdict (tableOf ps ts bs ms)) (tableOf ps ts bs ms) partners printed work (planned.Done t) (partners′ ++ drop (length ts) partners) (printed′ ++ drop (length ts) printed) (work′ ++ drop workCells work)
+  planned-as t partners′ printed′ work′ f =
+      record {
+        answered = rw (accepts, f .pairs-are, f .singles-are, f .visits-are) refl;
+        partners-hold = rw (accepts, f .partners-are) refl;
+        printed-hold = rw (accepts, f .printed-are) refl;
+        work-holds = rw (accepts, f .work-is) refl;
+        maximum = λ u done. let same : u ≡ t = cc in rw (same, f .partners-are, f .pairs-are, f .singles-are) (our-plan-maximum tb (s .tree) (right .downward) few (drop (length ts) partners));
+      }

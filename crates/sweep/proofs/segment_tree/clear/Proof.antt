@@ -1,0 +1,57 @@
+-- The first `at` cells are cleared, and those past them untouched.
+use borrow.Author.Needs.{needs}
+use native.Mathlib.Omega.{arith}
+use Rattle.sweep.proofs.segment_tree.clear.Statement.{statement}
+use Rattle.sweep.proofs.segment_tree.clear.Tie as tie
+use Prim.Native.Nat.{_*_, _-_}
+use Rattle.sweep_laws.specs.Nodes.{ClearedTo, cleared-same, cleared-step, cleared-all}
+use mathlib.Core.Path.{refl}
+
+abbrev Inv-loop : tie.InvT-loop
+Inv-loop nodes₀ width at₀ nodes at = ClearedTo width nodes₀ nodes at
+
+abbrev μ-loop : tie.MeasureT-loop
+μ-loop nodes₀ width at₀ nodes at = 2 * width - at
+
+loop-holds : tie.Need-loop-holds Inv-loop μ-loop
+loop-holds c = record { within = search needs; filled = refl }
+
+mul-loop : tie.Need-mul-loop Inv-loop μ-loop
+mul-loop c = search needs
+
+mul-nodes : tie.Need-mul-nodes Inv-loop μ-loop
+mul-nodes c = search needs
+
+slice-write-nodes : tie.Need-slice-write-nodes Inv-loop μ-loop
+slice-write-nodes c = omega (arith, cleared-same _ _ (c .before .before .pre .0) (c .before .before .pre .1) _ _ (c .before .loop .inv))
+
+add-at : tie.Need-add-at Inv-loop μ-loop
+add-at c = search needs
+
+loop-less : tie.Need-loop-less Inv-loop μ-loop
+loop-less c = search needs
+
+loop-again : tie.Need-loop-again Inv-loop μ-loop
+loop-again c = cleared-step _ _ (c .before .before .pre .0) (c .before .before .pre .1) _ _ (omega arith) (c .before .loop .inv)
+
+same-length : tie.Need-same-length Inv-loop μ-loop
+same-length c = cleared-same _ _ (c .before .before .pre .0) (c .before .before .pre .1) _ _ (c .before .loop .inv)
+
+returns : tie.Need-returns Inv-loop μ-loop
+returns c = cleared-all _ _ (c .before .before .pre .0) (c .before .before .pre .1) _ _ (omega arith) (c .before .loop .inv)
+
+pub clear-spec : {M : Type 1} → statement M
+clear-spec =
+    tie.close
+    (tie.spec
+    Inv-loop
+    μ-loop
+    loop-holds
+    mul-loop
+    mul-nodes
+    slice-write-nodes
+    add-at
+    loop-less
+    loop-again
+    same-length
+    returns)

@@ -1,0 +1,20 @@
+-- Laws of the segment tree and of the sweep over a schedule.
+pub mod SegmentTree
+pub mod EntryLaws
+pub mod Nodes
+pub mod VisitCount
+pub mod VisitBound
+pub mod VisitLevels
+pub mod NodeSpans
+pub mod RangeMinimum
+pub mod Levels
+pub mod WorkCells
+pub mod Sweeping
+pub mod WaitingLaws
+pub mod Reaching
+pub mod Choice
+pub mod MadeLaws
+pub mod Asking
+pub mod Steps
+pub mod Sweep
+pub mod Room

@@ -1,0 +1,142 @@
+-- Laws of the smallest place over a span of the segment tree's nodes: a span of nodes and the span of their parents have the same, but for the
+-- nodes at the two ends.
+use Prim.Native.Nat.{ℕ, zero, suc, _+_, _-_, _*_, _/_, _<_, _≤_, min}
+use mathlib.Core.Path.{_≡_, refl, sym, _∙_}
+use mathlib.Core.List.{List}
+use native.Mathlib.Nat.{zero-add, add-zero, suc-add, add-suc}
+use native.Mathlib.Omega.{arith}
+use native.Mathlib.Decide.{ℕ-discrete, decLe}
+use lib.ListN.{getD}
+use Rattle.model.specs.Tree.{FFFF}
+use Rattle.sweep_laws.specs.SegmentTree.{slots, entriesIn, smallest, SegmentTree}
+use Rattle.sweep_laws.specs.EntryLaws.{smallest-unique, slot-cell}
+
+-- the smallest of f at the n numbers from a on; FFFF for none
+pub least : (ℕ → ℕ) → ℕ → ℕ → ℕ
+least f a zero = FFFF
+least f a (suc n) = min (f a) (least f (suc a) n)
+
+module _ (f : ℕ → ℕ) where
+  least-cap : (a n : ℕ) → least f a n ≤ FFFF
+  unfolding least
+  least-cap a zero = omega arith
+  least-cap a (suc n) = omega (arith, least-cap (suc a) n)
+
+  least-le : (a n i : ℕ) → a ≤ i → i < a + n → least f a n ≤ f i
+  unfolding least
+  least-le a zero i h below = absurd (omega arith)
+  least-le a (suc n) i h below = elim (ℕ-discrete i a) [
+    | yes first ↦ rw first (omega arith)
+    | no later ↦ omega (arith, least-le (suc a) n i (omega arith) (omega arith))
+  ]
+
+  least-reached : (a n : ℕ) → (least f a n ≡ FFFF → ⊥) → (i : ℕ) × (a ≤ i) × (i < a + n) × (f i ≡ least f a n)
+  unfolding least
+  least-reached a zero some = absurd (some refl)
+  least-reached a (suc n) some = elim (decLe (f a) (least f (suc a) n)) [
+    | yes first ↦ (a, omega arith, omega arith, omega arith)
+    | no rest ↦
+        let same : min (f a) (least f (suc a) n) ≡ least f (suc a) n = omega arith in
+        let r = least-reached (suc a) n (λ none. some (same ∙ none)) in
+        (r .0, omega (arith, r .1), omega (arith, r .2), r .3 ∙ sym same)
+  ]
+
+  -- two spans side by side
+  least-join : (a m n : ℕ) → least f a (m + n) ≡ min (least f a m) (least f (a + m) n)
+  unfolding least
+  least-join a zero n = rw (zero-add n, add-zero a) (omega (arith, least-cap a n))
+  least-join a (suc m) n = rw (suc-add m n, least-join (suc a) m n, add-suc a m, suc-add a m) (omega arith)
+
+  -- where each node is the smaller of the two below it, a span of nodes has the smallest place of the span below
+  least-double : (a n : ℕ) → ((i : ℕ) → a ≤ i → i < a + n → f i ≡ min (f (2 * i)) (f (2 * i + 1))) → least f (2 * a) (2 * n) ≡ least f a n
+  unfolding least
+  least-double a zero node = refl
+  least-double a (suc n) node =
+      let two : 2 * suc n ≡ suc (suc (2 * n)) = omega arith in
+      let next : suc (suc (2 * a)) ≡ 2 * suc a = omega arith in
+      let odd : suc (2 * a) ≡ 2 * a + 1 = omega arith in
+      rw (two, next, odd, least-double (suc a) n (λ i b c. node i (omega arith) (omega arith))) (omega (arith, node a (omega arith) (omega arith)))
+
+  -- at most one node, at the place x
+  least-few : (a n x : ℕ) → n ≤ 1 → (0 < n → a ≡ x) → min (f x) FFFF ≤ least f a n
+  unfolding least
+  least-few a zero x h at = omega arith
+  least-few a (suc zero) x h at = rw (at (omega arith)) (omega arith)
+  least-few a (suc (suc n)) x h at = absurd (omega arith)
+
+-- the nodes as a function
+abbrev pub nodeAt : List ℕ → ℕ → ℕ
+nodeAt nodes n = getD nodes n 0
+
+-- a span x of nodes d between at most one at each end, both of which x covers
+ends : (x p d t first last : ℕ) → x ≡ min p (min d t) → min first FFFF ≤ p → min last FFFF ≤ t → d ≤ FFFF → x ≤ first → x ≤ last → x ≡ min (min first last) d
+ends x p d t first last parts left right cap a b = omega arith
+
+taken-in : (best x e d : ℕ) → x ≡ min e d → min best x ≡ min (min best e) d
+taken-in best x e d parts = omega arith
+
+-- the smallest place of the nodes from l up to r, together with the smallest so far, is that of the slots from `from` up to `to`
+pub record Narrowed (width : ℕ) (nodes : List ℕ) (from to l r best : ℕ) : Type 0 where
+  pub some : 1 ≤ l
+  pub order : l ≤ r
+  pub within : r ≤ 2 * width
+  pub cap : best ≤ FFFF
+  pub same : least (nodeAt nodes) (width + from) (to - from) ≡ min best (least (nodeAt nodes) l (r - l))
+
+module _ (width : ℕ) (nodes : List ℕ) (s : SegmentTree width nodes) where
+  pub narrowed-slots : (from to : ℕ) → from < to → to ≤ width → Narrowed width nodes from to (width + from) (width + to) FFFF
+  narrowed-slots from to h top =
+      let n : width + to - (width + from) ≡ to - from = omega arith in
+      record {
+        some = omega (arith, s .some);
+        order = omega arith;
+        within = omega (arith);
+        cap = omega arith;
+        same = rw n (omega (arith, least-cap (nodeAt nodes) (width + from) (to - from)));
+      }
+
+  -- from the nodes of a level to their parents
+  pub narrowed-parents : (from to l r best : ℕ) → l < r → Narrowed width nodes from to l r best → Narrowed width nodes from to ((l + 1) / 2) (r / 2) (min best (min (nodeAt nodes l) (nodeAt nodes (r - 1))))
+  narrowed-parents from to l r best h n =
+      let f : ℕ → ℕ = nodeAt nodes in
+      let a : ℕ = (l + 1) / 2 in
+      let b : ℕ = r / 2 in
+      let whole : r - l ≡ (2 * a - l) + (2 * (b - a) + (r - 2 * b)) = omega arith in
+      let mid : l + (2 * a - l) ≡ 2 * a = omega arith in
+      let end : 2 * a + 2 * (b - a) ≡ 2 * b = omega arith in
+      let parts : least f l (r - l) ≡ min (least f l (2 * a - l)) (min (least f (2 * a) (2 * (b - a))) (least f (2 * b) (r - 2 * b))) =
+      rw (whole, least-join f l (2 * a - l) (2 * (b - a) + (r - 2 * b)), mid, least-join f (2 * a) (2 * (b - a)) (r - 2 * b), end) in
+      let above : least f (2 * a) (2 * (b - a)) ≡ least f a (b - a) =
+      least-double f a (b - a) (λ i c d. s .inner i (omega (arith, n .some)) (omega (arith, n .within))) in
+      record {
+        some = omega (arith, n .some);
+        order = omega arith;
+        within = omega (arith, n .within);
+        cap = omega (arith, n .cap);
+        same = n .same ∙ taken-in best (least f l (r - l)) (min (f l) (f (r - 1))) (least f a (b - a))
+            (ends (least f l (r - l)) (least f l (2 * a - l)) (least f a (b - a)) (least f (2 * b) (r - 2 * b)) (f l) (f (r - 1))
+            (rw above at parts)
+            (least-few f l (2 * a - l) l (omega arith) (λ some. refl))
+            (least-few f (2 * b) (r - 2 * b) (r - 1) (omega arith) (λ some. omega arith))
+            (least-cap f a (b - a))
+            (least-le f l (r - l) l (omega arith) (omega arith))
+            (least-le f l (r - l) (r - 1) (omega arith) (omega arith)));
+      }
+
+  -- a node of the slots, as its slot
+  slot-of-node : (from to i m : ℕ) → to ≤ width → width + from ≤ i → i < width + from + (to - from) → nodeAt nodes i ≡ m → (t : ℕ) × (from ≤ t) × (t < to) × (getD (slots width nodes) t FFFF ≡ m)
+  slot-of-node from to i m top a b e =
+      let back : width + (i - width) ≡ i = omega arith in
+      (i - width, omega arith, omega arith, rw (slot-cell width nodes (s .room) (i - width) (omega arith), back) e)
+
+  -- no node is left
+  pub narrowed-all : (from to l r best : ℕ) → to ≤ width → r ≤ l → Narrowed width nodes from to l r best → best ≡ smallest (entriesIn width nodes) from to
+  unfolding least
+  narrowed-all from to l r best top h n =
+      let none : r - l ≡ 0 = omega arith in
+      let is : least (nodeAt nodes) (width + from) (to - from) ≡ best = n .same ∙ rw none (omega (arith, n .cap)) in
+      smallest-unique (slots width nodes) from to best (n .cap)
+      (λ t c d. rw (slot-cell width nodes (s .room) t (omega arith)) (omega (arith, least-le (nodeAt nodes) (width + from) (to - from) (width + t) (omega arith) (omega arith))))
+      (λ some.
+      let i = least-reached (nodeAt nodes) (width + from) (to - from) (λ e. some (sym is ∙ e)) in
+      slot-of-node from to (i .0) best top (i .1) (i .2) (i .3 ∙ is))

@@ -1,0 +1,289 @@
+-- From place to place: each way that a turn can end leaves the sweep at the next place, with the passes made.
+use Prim.Native.Nat.{ℕ, suc, _+_, _-_, _*_, _<_, _≤_}
+use mathlib.Core.Path.{_≡_, refl, sym, ap, _∙_}
+use mathlib.Core.Logic.{_⊎_, inl, inr, ⊎-elim, _≢_}
+use mathlib.Core.Bool.{Bool, true, false, true≢false, not, _&&_, _||_}
+use mathlib.Core.Option.{none, some}
+use mathlib.Core.List.{List, [], _∷_, List·Memᴰ as Mem}
+use native.Mathlib.Omega.{arith}
+use native.Mathlib.Nat.{add-zero}
+use native.Mathlib.Numerals.{add-one}
+use native.Mathlib.Decide.{ℕ-discrete}
+use lib.ListN.{length, getD, set, take, length-set}
+use lib.Seq.{getD-set-same, getD-set-other}
+use lib.Dec.{eqb, ltb}
+use borrow.Author.Tests.{eq-eqb, ne-eqb, le-ltb}
+use Rattle.model.specs.Lists.{find}
+use Rattle.model.specs.Tree.{FFFF}
+use Rattle.model.specs.Greedy.{Pass, pair, single, greedy, without}
+use Rattle.model.specs.Planning.{pairCount}
+use Rattle.matching.specs.Passes.{greedy-with, greedy-alone}
+use Rattle.schedule.specs.Schedule.{Schedule, toAt, dueAt, fits, visitsAt, visitsOf}
+use Rattle.schedule.specs.InWork.{slotPart, fromPart, toPart, reachedPart, duePart, matePart, openerPart, treePart, passOf}
+use Rattle.sweep_laws.specs.WorkCells.{FrontKept, front-both, front-less, front-set, treeIn, tree-set}
+use Rattle.sweep_laws.specs.Sweeping.{freeAt, remaining, Open, Cells, Sweeping, Made, Underway, Asking, paired, Mate, NoMate, Chosen, ReachedAt}
+use Rattle.sweep_laws.specs.WaitingLaws.{waiting-as}
+use Rattle.sweep_laws.specs.Reaching.{free-kept, take-place}
+use Rattle.sweep_laws.specs.Asking.{asks-free, free-alone, mate-of-one, paired-other, free-paired}
+use Rattle.sweep_laws.specs.MadeLaws.{remaining-free, remaining-taken, remaining-same, remaining-without, made-same, made-more}
+
+-- nothing is found where nothing passes
+find-never : (p : ℕ → Bool) (l : List ℕ) → ((x : ℕ) → p x ≡ false) → find p l ≡ none
+unfolding find
+find-never p [] e = refl
+find-never p (x ∷ l) e = rw (e x) (find-never p l e)
+
+-- a place that asks nobody fits none
+fits-none : (s : Schedule) (p q : ℕ) → toAt s p ≡ 0 → fits s p q ≡ false
+unfolding fits
+fits-none s p q e = rw e refl
+
+visits-none : (s : Schedule) (p : ℕ) → toAt s p ≡ 0 → visitsAt s p ≡ 0
+unfolding visitsAt
+visits-none s p e = rw e refl
+
+-- the pass that place i opens, by its mate
+pass-alone : (n : ℕ) (work : List ℕ) (i : ℕ) → getD work (matePart * n + i) 0 ≡ FFFF → passOf n work i ≡ single i
+unfolding passOf
+pass-alone n work i e = rw e refl
+
+pass-pair : (n : ℕ) (work : List ℕ) (i q : ℕ) → q ≢ FFFF → getD work (matePart * n + i) 0 ≡ q → passOf n work i ≡ pair i q
+unfolding passOf
+pass-pair n work i q other e = rw (e, ne-eqb q FFFF other) refl
+
+-- what a pass counts
+pairs-alone : (i : ℕ) → 0 ≡ pairCount (single i)
+unfolding pairCount
+pairs-alone i = refl
+
+pairs-two : (i q : ℕ) → 1 ≡ pairCount (pair i q)
+unfolding pairCount
+pairs-two i q = refl
+
+visits-alone : (s : Schedule) (i : ℕ) → visitsAt s i ≡ visitsOf s (single i)
+unfolding visitsOf
+visits-alone s i = refl
+
+visits-two : (s : Schedule) (i q : ℕ) → visitsAt s i ≡ visitsOf s (pair i q)
+unfolding visitsOf
+visits-two s i q = refl
+
+-- an opener is written where what was due is used up
+module _ (s : Schedule) (n width i next k v : ℕ) (work : List ℕ) (known : i < n) (early : k ≤ i) where
+  free-opener : (p : ℕ) → p < n → freeAt n (set work (openerPart * n + k) v) p ≡ freeAt n work p
+  unfolding freeAt
+  free-opener p h =
+      rw (getD-set-other work (openerPart * n + k) (toPart * n + p) v 0 (λ e. omega arith), getD-set-other work (openerPart * n + k) (matePart * n + p) v 0 (λ e. omega arith)) refl
+
+  sweeping-opener : Sweeping s n width (suc i) next work → Sweeping s n width (suc i) next (set work (openerPart * n + k) v)
+  sweeping-opener w =
+      let few : length (s .reached) ≤ n = rw (← (w .setting .places-are)) (w .setting .sound .reached-length) in
+      record {
+        setting = w .setting;
+        cells =
+            record {
+              room = rw length-set (w .cells .room);
+              slot-cell = λ p h. getD-set-other work (openerPart * n + k) (slotPart * n + p) v 0 (λ e. omega arith) ∙ w .cells .slot-cell p h;
+              reached-cell = λ r h. getD-set-other work (openerPart * n + k) (reachedPart * n + r) v 0 (λ e. omega arith) ∙ w .cells .reached-cell r h;
+              due-cell = λ p l h. getD-set-other work (openerPart * n + k) (duePart * n + p) v 0 (λ e. omega arith) ∙ w .cells .due-cell p l h;
+              from-cell = λ p l h f. getD-set-other work (openerPart * n + k) (fromPart * n + p) v 0 (λ e. omega arith) ∙ w .cells .from-cell p l h (sym (free-opener p h) ∙ f);
+              to-cell = λ p l h f. getD-set-other work (openerPart * n + k) (toPart * n + p) v 0 (λ e. omega arith) ∙ w .cells .to-cell p l h (sym (free-opener p h) ∙ f);
+            };
+        taken-reached = λ p l h f. w .taken-reached p l h (sym (free-opener p h) ∙ f);
+        next-inside = w .next-inside;
+        behind = w .behind;
+        ahead = w .ahead;
+        waiting = rw (tree-set n work (openerPart * n + k) v (omega arith))
+            (waiting-as s n width (w .setting) (Open s n (suc i) next work) (Open s n (suc i) next (set work (openerPart * n + k) v)) (treeIn n work)
+            (λ p h o. (o .0, free-opener p h ∙ o .1, o .2))
+            (λ p h o. (o .0, sym (free-opener p h) ∙ o .1, o .2))
+            (w .waiting));
+      }
+
+-- a place that does not wait is passed over
+sweeping-past : (s : Schedule) (n width i next : ℕ) (work : List ℕ) → next ≡ dueAt s i → (Open s n i next work i → ⊥) → Sweeping s n width i next work → Sweeping s n width (suc i) next work
+sweeping-past s n width i next work next-is idle w =
+    record {
+      setting = w .setting;
+      cells =
+          record {
+            room = w .cells .room;
+            slot-cell = w .cells .slot-cell;
+            reached-cell = w .cells .reached-cell;
+            due-cell = λ p l h. w .cells .due-cell p (omega arith) h;
+            from-cell = λ p l h f. w .cells .from-cell p (omega arith) h f;
+            to-cell = λ p l h f. w .cells .to-cell p (omega arith) h f;
+          };
+      taken-reached = λ p l h f. w .taken-reached p (omega arith) h f;
+      next-inside = w .next-inside;
+      behind = λ p h. elim (ℕ-discrete p i) [
+        | yes e ↦ rw (e, next-is) (omega arith)
+        | no e ↦ w .behind p (omega arith)
+      ];
+      ahead = λ p l h. w .ahead p (omega arith) h;
+      waiting = waiting-as s n width (w .setting) (Open s n i next work) (Open s n (suc i) next work) (treeIn n work)
+          (λ p h o. elim (ℕ-discrete p i) [
+            | yes e ↦ absurd (idle (rw e at o))
+            | no e ↦ (omega (arith, o .0), o .1, o .2)
+          ])
+          (λ p h o. (omega (arith, o .0), o .1, o .2))
+          (w .waiting);
+    }
+
+-- ---- a turn, once what is due is reached
+
+module _ (s : Schedule) (n level width i next passes pairs visits : ℕ) (work : List ℕ) (u : Underway s n level width i next passes pairs visits work) (known : i < n)
+    (due : ℕ) (work₁ : List ℕ) (r : ReachedAt n width i next work due work₁) where
+  abbrev reached : (due ≡ dueAt s i) × Sweeping s n width i due work₁
+  reached = r .reached s known (u .sweeping)
+
+  abbrev w : Sweeping s n width i due work₁
+  w = reached .1
+
+  room : treePart * n ≤ length work₁
+  room = omega (arith, w .cells .room)
+
+  pub early : passes ≤ i
+  early = u .made .few-passes
+
+  m : Made s n i work₁ passes pairs visits
+  m = made-same s n i work passes pairs visits (u .made) work₁
+      (λ k h. r .front .kept (openerPart * n + k) (omega (arith, early)))
+      (λ p h. r .front .kept (matePart * n + p) (omega arith))
+      i (omega arith)
+      (remaining-same n work work₁ i (λ p l h. free-kept n work work₁ (r .front) p h))
+
+  -- the cells of a later list that tell the passes
+  abbrev opened : List ℕ → List ℕ
+  opened new = set new (openerPart * n + passes) i
+
+  module _ (to : ℕ) (to-is : to ≡ getD work₁ (toPart * n + i) 0) where
+    -- ---- it asks nobody
+
+    module _ (quiet : to ≤ 0) (mate : ℕ) (mate-is : mate ≡ getD work₁ (matePart * n + i) 0) where
+      quiet-cell : getD work₁ (toPart * n + i) 0 ≤ 0
+      quiet-cell = rw (← to-is) quiet
+
+      -- the running order stays
+      pub quiet-order : (FrontKept n work work₁) × FrontKept n work (opened work₁)
+      quiet-order =
+          let less : FrontKept n work work₁ = front-less n (treePart * n) work work₁ (omega arith) (r .front) in
+          (less, front-both n work work₁ (opened work₁) less (front-set n work₁ (openerPart * n + passes) i (omega arith)))
+
+      -- it is taken
+      pub turn-taken : (mate ≡ FFFF → ⊥) → Underway s n level width (i + 1) due passes pairs visits work₁
+      turn-taken other =
+          let taken : freeAt n work₁ i ≡ false = unfold freeAt in rw (le-ltb 0 (getD work₁ (toPart * n + i) 0) quiet-cell, ne-eqb (getD work₁ (matePart * n + i) 0) FFFF (λ e. other (mate-is ∙ e))) refl in
+          rw add-one
+          (record {
+            sweeping = sweeping-past s n width i due work₁ (reached .0) (λ o. true≢false (sym (o .1) ∙ taken)) w;
+            made = made-same s n i work₁ passes pairs visits m work₁ (λ k h. refl) (λ p h. refl) (suc i) (omega arith) (sym (remaining-taken n work₁ i known taken));
+            levels-are = u .levels-are;
+          })
+
+      -- it runs alone
+      pub turn-alone : mate ≡ FFFF → Underway s n level width (i + 1) due (passes + 1) pairs visits (opened work₁)
+      turn-alone e =
+          let free : freeAt n work₁ i ≡ true = unfold freeAt in rw (le-ltb 0 (getD work₁ (toPart * n + i) 0) quiet-cell, eq-eqb (getD work₁ (matePart * n + i) 0) FFFF (sym mate-is ∙ e)) refl in
+          let quiet-at : toAt s i ≡ 0 = omega (arith, w .cells .to-cell i (omega arith) known free, quiet-cell) in
+          let unwaiting : Open s n i due work₁ i → ⊥ = λ o. let t = take-place due (s .reached) (o .2) in omega (arith, quiet-at, rw (t .3) at (w .setting .sound .reached-asks (t .0) (t .2))) in
+          let same : remaining n (opened work₁) (suc i) ≡ remaining n work₁ (suc i) = remaining-same n work₁ (opened work₁) (suc i) (λ p l h. free-opener s n width i due passes i work₁ known early p h) in
+          let turn : greedy (fits s) (remaining n work₁ i) ≡ single i ∷ greedy (fits s) (remaining n (opened work₁) (suc i)) =
+          rw (remaining-free n work₁ i known free, same) (greedy-alone (fits s) i (remaining n work₁ (suc i)) (find-never (fits s i) (remaining n work₁ (suc i)) (λ q. fits-none s i q quiet-at))) in
+          let made : Made s n (i + 1) (opened work₁) (passes + 1) (pairs + 0) (visits + 0) = made-more s n i work₁ passes pairs visits m (opened work₁)
+          (λ k h. getD-set-other work₁ (openerPart * n + passes) (openerPart * n + k) i 0 (λ e. omega arith))
+          (λ p h. getD-set-other work₁ (openerPart * n + passes) (matePart * n + p) i 0 (λ e. omega arith))
+          (single i) 0 0
+          (getD-set-same work₁ (openerPart * n + passes) i 0 (omega (arith, room, early)))
+          (pass-alone n (opened work₁) i (getD-set-other work₁ (openerPart * n + passes) (matePart * n + i) i 0 (λ e. omega arith) ∙ sym mate-is ∙ e))
+          turn (pairs-alone i) (omega arith) (sym (visits-none s i quiet-at) ∙ visits-alone s i) (omega arith) in
+          record {
+            sweeping = rw add-one (sweeping-opener s n width i due passes i work₁ known early (sweeping-past s n width i due work₁ (reached .0) unwaiting w));
+            made = rw (add-zero pairs, add-zero visits) at made;
+            levels-are = u .levels-are;
+          }
+
+    -- ---- it asks
+
+    module _ (some : 0 < to) where
+      pub turn-asking : Asking s n level width i due to work₁
+      turn-asking =
+          record { sweeping = w; inside = known; next-is = reached .0; to-is = to-is; asks = some; levels-are = u .levels-are }
+
+      free-here : freeAt n work₁ i ≡ true
+      free-here = asks-free n work₁ i (rw (← to-is) some)
+
+      module _ (q v : ℕ) (work₂ : List ℕ) (c : Chosen s n width i due work₁ q v work₂) where
+        next-sweeping : Sweeping s n width (i + 1) due (opened work₂)
+        next-sweeping = rw add-one (sweeping-opener s n width i due passes i work₂ known early (c .sweeping))
+
+        pub opener-room : openerPart * n + passes < length work₂
+        opener-room = omega (arith, early, c .sweeping .cells .room)
+
+        -- one pass more, where the passes made before place i stand still
+        turned : ((k : ℕ) → k < passes → getD work₂ (openerPart * n + k) 0 ≡ getD work₁ (openerPart * n + k) 0) → ((p : ℕ) → p < i → getD work₂ (matePart * n + p) 0 ≡ getD work₁ (matePart * n + p) 0) → (p : Pass) (a : ℕ) → passOf n (opened work₂) i ≡ p → greedy (fits s) (remaining n work₁ i) ≡ p ∷ greedy (fits s) (remaining n (opened work₂) (suc i)) → a ≡ pairCount p → a ≤ 1 → v ≡ visitsOf s p → Underway s n level width (i + 1) due (passes + 1) (pairs + a) (visits + v) (opened work₂)
+        turned openers mates p a is turn a-is a-few v-is =
+            record {
+              sweeping = next-sweeping;
+              made = made-more s n i work₁ passes pairs visits m (opened work₂)
+                  (λ k h. getD-set-other work₂ (openerPart * n + passes) (openerPart * n + k) i 0 (λ e. omega arith) ∙ openers k h)
+                  (λ y h. getD-set-other work₂ (openerPart * n + passes) (matePart * n + y) i 0 (λ e. omega arith) ∙ mates y h)
+                  p a v
+                  (getD-set-same work₂ (openerPart * n + passes) i 0 opener-room)
+                  is turn a-is a-few v-is (c .few-visits);
+              levels-are = u .levels-are;
+            }
+
+        mate-opened : getD (opened work₂) (matePart * n + i) 0 ≡ getD work₂ (matePart * n + i) 0
+        mate-opened = getD-set-other work₂ (openerPart * n + passes) (matePart * n + i) i 0 (λ e. omega arith)
+
+        -- it finds none
+        pub turn-unmatched : q ≡ FFFF → Underway s n level width (i + 1) due (passes + 1) pairs (visits + v) (opened work₂)
+        turn-unmatched e =
+            let o = c .none-found e in
+            let keeps : (y : ℕ) → y < treePart * n → y ≢ matePart * n + i → getD work₂ y 0 ≡ getD work₁ y 0 = λ y h other. o .front .kept y h ∙ getD-set-other work₁ (matePart * n + i) y FFFF 0 other in
+            let mate : getD work₂ (matePart * n + i) 0 ≡ FFFF = o .front .kept (matePart * n + i) (omega arith) ∙ getD-set-same work₁ (matePart * n + i) FFFF 0 (omega (arith, room)) in
+            let same : remaining n (opened work₂) (suc i) ≡ remaining n work₁ (suc i) = remaining-same n work₁ (opened work₂) (suc i)
+            (λ p l h. free-opener s n width i due passes i work₂ known early p h ∙ free-kept n (set work₁ (matePart * n + i) FFFF) work₂ (o .front) p h ∙ free-alone n i work₁ FFFF p known h (λ e. omega arith)) in
+            rw add-zero at
+            (turned
+            (λ k h. keeps (openerPart * n + k) (omega (arith, early)) (λ e. omega arith))
+            (λ y h. keeps (matePart * n + y) (omega arith) (λ e. omega arith))
+            (single i) 0
+            (pass-alone n (opened work₂) i (mate-opened ∙ mate))
+            (rw (remaining-free n work₁ i known free-here, same) (greedy-alone (fits s) i (remaining n work₁ (suc i)) (o .unfound)))
+            (pairs-alone i) (omega arith) (c .visits-are ∙ visits-alone s i))
+
+        -- it finds a mate
+        pub turn-matched : (q ≡ FFFF → ⊥) → Underway s n level width (i + 1) due (passes + 1) (pairs + 1) (visits + v) (opened work₂)
+        turn-matched other =
+            let o = c .one-found other in
+            let inside = o .inside in
+            let later = o .later in
+            let few = w .setting .few in
+            let keeps : (y : ℕ) → y < treePart * n → y ≢ matePart * n + i → y ≢ matePart * n + q → y ≢ toPart * n + q → getD work₂ y 0 ≡ getD work₁ y 0 = λ y h a b d. o .front .kept y h ∙ paired-other n i q work₁ known inside later room few y a b d in
+            let mate : getD work₂ (matePart * n + i) 0 ≡ q = o .front .kept (matePart * n + i) (omega arith) ∙ mate-of-one n i q work₁ known inside later room few in
+            let rest : remaining n (opened work₂) (suc i) ≡ without q (remaining n work₁ (suc i)) = remaining-without n work₁ (opened work₂) (suc i) q
+            (λ p l h. free-opener s n width i due passes i work₂ known early p h ∙ free-kept n (paired n i q work₁) work₂ (o .front) p h ∙ free-paired n i q work₁ known inside later room few p h (λ e. omega arith)) in
+            turned
+            (λ k h. keeps (openerPart * n + k) (omega (arith, early)) (λ e. omega (arith, early)) (λ e. omega (arith, early)) (λ e. omega (arith, early)))
+            (λ y h. keeps (matePart * n + y) (omega arith) (λ e. omega arith) (λ e. omega arith) (λ e. omega arith))
+            (pair i q) 1
+            (pass-pair n (opened work₂) i q other (mate-opened ∙ mate))
+            (rw (remaining-free n work₁ i known free-here, rest) (greedy-with (fits s) i (remaining n work₁ (suc i)) (o .first)))
+            (pairs-two i q) (omega arith) (c .visits-are ∙ visits-two s i q)
+
+        -- the running order stays
+        pub turn-order : FrontKept n work (opened work₂)
+        turn-order =
+            let less : FrontKept n work work₁ = front-less n (treePart * n) work work₁ (omega arith) (r .front) in
+            let chosen : FrontKept n work₁ work₂ = elim (ℕ-discrete q FFFF) [
+              | yes e ↦ front-both n work₁ (set work₁ (matePart * n + i) FFFF) work₂ (front-set n work₁ (matePart * n + i) FFFF (omega arith)) (front-less n (treePart * n) (set work₁ (matePart * n + i) FFFF) work₂ (omega arith) (c .none-found e .front))
+              | no e ↦ front-both n work₁ (paired n i q work₁) work₂ paired-order (front-less n (treePart * n) (paired n i q work₁) work₂ (omega arith) (c .one-found e .front))
+            ] in
+            front-both n work work₁ (opened work₂) less (front-both n work₁ work₂ (opened work₂) chosen (front-set n work₂ (openerPart * n + passes) i (omega arith)))
+          where
+            paired-order : FrontKept n work₁ (paired n i q work₁)
+            paired-order = front-both n work₁ (set (set work₁ (matePart * n + i) q) (matePart * n + q) i) (paired n i q work₁)
+                (front-both n work₁ (set work₁ (matePart * n + i) q) (set (set work₁ (matePart * n + i) q) (matePart * n + q) i) (front-set n work₁ (matePart * n + i) q (omega arith)) (front-set n (set work₁ (matePart * n + i) q) (matePart * n + q) i (omega arith)))
+                (front-set n (set (set work₁ (matePart * n + i) q) (matePart * n + q) i) (toPart * n + q) 0 (omega arith))

@@ -1,0 +1,203 @@
+-- A sweep from its first place to its last: it begins with the schedule that the work cells hold, and ends with the passes of the greedy rule.
+use Prim.Native.Nat.{ℕ, zero, suc, _+_, _-_, _*_, _<_, _≤_, _^_}
+use mathlib.Core.Path.{_≡_, refl, sym, ap, _∙_}
+use mathlib.Core.Bool.{Bool, true, true≢false, _||_, or-true}
+use mathlib.Core.List.{List, [], _++_, map, List·Memᴰ as Mem, List·Memᴰ·not-nil as not-nil}
+use native.Mathlib.Omega.{arith}
+use native.Mathlib.Decide.{decLt}
+use native.Mathlib.Nat.{sub-zero}
+use lib.ListN.{length, getD, take, drop, length-take, length-drop, length-map}
+use lib.Seq.{length-take-le, getD-take, getD-drop, ext-getD}
+use lib.Dec.{ltb}
+use lib.Pow.{pow-pos}
+use borrow.Rule.Slice.PartMut.{putMid}
+use borrow.Author.Tests.{eq-eqb}
+use Rattle.model.specs.Lists.{numbersFrom, numbers, lastD, select, total}
+use Rattle.model.specs.Tree.{FFFF}
+use Rattle.model.specs.Greedy.{Pass, greedy}
+use Rattle.model.specs.Visits.{levels}
+use Rattle.model.specs.Planning.{pairCount}
+use Rattle.tree_laws.specs.Lists.{mem-all, select-all, range-mem}
+use Rattle.tree_laws.specs.Numbers.{numbers-length, numbers-mem}
+use Rattle.schedule.specs.Schedule.{Schedule, places, slotAt, fromAt, toAt, dueAt, fits, passesByPlace, totalVisits, visitsOf}
+use Rattle.schedule.specs.InWork.{slotPart, fromPart, toPart, reachedPart, duePart, matePart, openerPart, treePart, part, scheduleIn, passAt, Swept}
+use Rattle.sweep_laws.specs.SegmentTree.{Cleared}
+use Rattle.sweep_laws.specs.Levels.{ShapeFor}
+use Rattle.sweep_laws.specs.WorkCells.{FrontKept, front-refl, front-both, front-less, mid-tail, treeIn, TreeChanged, tree-back}
+use Rattle.sweep_laws.specs.Sweeping.{Sweepable, freeAt, remaining, Open, Setting, Cells, Sweeping, Made, Underway, SteppedFrom}
+use Rattle.sweep_laws.specs.WaitingLaws.{waiting-none}
+use Rattle.sweep_laws.specs.Asking.{asks-free}
+use Rattle.sweep_laws.specs.MadeLaws.{made-all}
+
+-- a cell of part k
+part-cell : (n k : ℕ) (work : List ℕ) (p : ℕ) → p < n → getD (part n k work) p 0 ≡ getD work (k * n + p) 0
+part-cell n k work p h = getD-take n (drop (k * n) work) p 0 h ∙ getD-drop (k * n) work p 0
+
+-- a place without a mate is free
+unmated-free : (n : ℕ) (work : List ℕ) (p : ℕ) → getD work (matePart * n + p) 0 ≡ FFFF → freeAt n work p ≡ true
+unfolding freeAt
+unmated-free n work p e = rw (eq-eqb (getD work (matePart * n + p) 0) FFFF e) (or-true (ltb 0 (getD work (toPart * n + p) 0)))
+
+visits-total : (s : Schedule) (ps : List Pass) → passesByPlace s ≡ ps → total (visitsOf s) ps ≡ totalVisits s
+unfolding totalVisits
+visits-total s ps e = ap (total (visitsOf s)) (sym e)
+
+-- ---- the first place
+
+module _ (n level width : ℕ) (work work₁ : List ℕ) (b : Sweepable n work) (shape : ShapeFor n level width) (c : TreeChanged n width [] work work₁) where
+  abbrev s : Schedule
+  s = scheduleIn n work
+
+  places-are : places s ≡ n
+  unfolding scheduleIn
+  places-are = length-take-le n (drop (slotPart * n) work) (rw (length-drop (slotPart * n) work) (omega (arith, b .room)))
+
+  power : width ≡ 2 ^ levels n
+  power = shape .width-is ∙ ap (λ (k : ℕ). 2 ^ k) (shape .levels-are)
+
+  setting : Setting s n width
+  setting = record { few = b .few; places-are = places-are; sound = b .sound; width-is = power }
+
+  few-reached : length (s .reached) ≤ n
+  few-reached = omega (arith, places-are, b .sound .reached-length)
+
+  slot-cell : (p : ℕ) → p < n → getD work₁ (slotPart * n + p) 0 ≡ slotAt s p
+  unfolding scheduleIn
+  slot-cell p h = c .front .kept (slotPart * n + p) (omega arith) ∙ sym (part-cell n slotPart work p h)
+
+  from-cell : (p : ℕ) → p < n → getD work₁ (fromPart * n + p) 0 ≡ fromAt s p
+  unfolding scheduleIn
+  from-cell p h = c .front .kept (fromPart * n + p) (omega arith) ∙ sym (part-cell n fromPart work p h)
+
+  to-cell : (p : ℕ) → p < n → getD work₁ (toPart * n + p) 0 ≡ toAt s p
+  unfolding scheduleIn
+  to-cell p h = c .front .kept (toPart * n + p) (omega arith) ∙ sym (part-cell n toPart work p h)
+
+  due-cell : (p : ℕ) → p < n → getD work₁ (duePart * n + p) 0 ≡ dueAt s p
+  unfolding scheduleIn
+  due-cell p h = c .front .kept (duePart * n + p) (omega arith) ∙ sym (part-cell n duePart work p h)
+
+  reached-cell : (r : ℕ) → r < length (s .reached) → getD work₁ (reachedPart * n + r) 0 ≡ getD (s .reached) r 0
+  reached-cell r h = c .front .kept (reachedPart * n + r) (omega (arith, few-reached)) ∙ unfold scheduleIn in sym (taken h)
+    where
+      taken : r < length (take (lastD (part n duePart work) 0) (drop (reachedPart * n) work)) → getD (take (lastD (part n duePart work) 0) (drop (reachedPart * n) work)) r 0 ≡ getD work (reachedPart * n + r) 0
+      taken l = getD-take (lastD (part n duePart work) 0) (drop (reachedPart * n) work) r 0 (omega (arith, length-take (lastD (part n duePart work) 0) (drop (reachedPart * n) work))) ∙ getD-drop (reachedPart * n) work r 0
+
+  -- every place is free
+  all-free : (p : ℕ) → p < n → freeAt n work₁ p ≡ true
+  all-free p h = elim (decLt 0 (getD work₁ (toPart * n + p) 0)) [
+    | yes some ↦ asks-free n work₁ p some
+    | no quiet ↦
+        let none : toAt s p ≡ 0 = omega (arith, to-cell p h) in
+        let alone : getD work₁ (matePart * n + p) 0 ≡ FFFF = from-cell p h ∙ b .sound .asks-nobody p (rw places-are h) none in
+        unmated-free n work₁ p alone
+  ]
+
+  all-remain : remaining n work₁ 0 ≡ numbers (places s)
+  unfolding remaining numbers
+  all-remain = rw (sub-zero n, places-are) (select-all (freeAt n work₁) (numbersFrom 0 n) (mem-all (λ (p : ℕ). freeAt n work₁ p ≡ true) (numbersFrom 0 n) (λ p m. all-free p (omega (arith, range-mem 0 n m .1)))))
+
+  made : Made s n 0 work₁ 0 0 0
+  unfolding numbers numbersFrom total
+  made =
+      record {
+        made = [];
+        rest = unfold passesByPlace in rw all-remain refl;
+        stands = refl;
+        opener-cell = λ k h. absurd (omega arith);
+        few-passes = omega arith;
+        pairs-are = refl;
+        visits-are = refl;
+        few-pairs = omega arith;
+        few-visits = omega arith;
+      }
+
+  pub sweep-begins : Underway s n level width 0 0 0 0 0 work₁
+  sweep-begins =
+      record {
+        sweeping =
+            record {
+              setting = setting;
+              cells =
+                  record {
+                    room = rw (c .front .same, power) (b .room);
+                    slot-cell = slot-cell;
+                    reached-cell = reached-cell;
+                    due-cell = λ p l h. due-cell p h;
+                    from-cell = λ p l h f. from-cell p h;
+                    to-cell = λ p l h f. to-cell p h;
+                  };
+              taken-reached = λ q l h e. absurd (true≢false (sym (all-free q h) ∙ e));
+              next-inside = omega arith;
+              behind = λ p h. absurd (omega arith);
+              ahead = λ p l h. omega arith;
+              waiting = waiting-none s n width setting (Open s n 0 0 work₁) work work₁ (λ q h o. not-nil (o .2)) c;
+            };
+        made = made;
+        levels-are = shape .levels-are;
+      }
+
+-- ---- the last place
+
+pub sweep-ends : (n level width i next passes pairs visits : ℕ) (work new : List ℕ) → n ≤ length work → i ≡ n → Underway (scheduleIn n work) n level width i next passes pairs visits new → FrontKept n work new → Swept n work pairs visits new
+sweep-ends n level width i next passes pairs visits work new room e u f =
+    let m : Made (scheduleIn n work) n n new passes pairs visits = rw e at (u .made) in
+    let all : passesByPlace (scheduleIn n work) ≡ m .made = made-all (scheduleIn n work) n new passes pairs visits m in
+    let count : length (passesByPlace (scheduleIn n work)) ≡ passes = ap length (all ∙ sym (m .stands)) ∙ length-map (numbers passes) (passAt n new) ∙ numbers-length passes in
+    record {
+      kept = f .same;
+      order-kept = ext-getD 0 (take n new) (take n work) (length-take-le n new (rw (f .same) room) ∙ sym (length-take-le n work room))
+          (λ y h. let inside : y < n = rw (length-take-le n new (rw (f .same) room)) at h in rw (getD-take n new y 0 inside, getD-take n work y 0 inside) (f .kept y inside));
+      passes-are = rw count (m .stands ∙ sym all);
+      pairs-are = m .pairs-are ∙ ap (total pairCount) (sym all);
+      visits-are = m .visits-are ∙ visits-total (scheduleIn n work) (m .made) all;
+    }
+
+-- ---- from the first place to the last
+
+-- the sweep has come from the cells `old`, with the tree cleared, to place i
+pub record SweptTo (n level width : ℕ) (old : List ℕ) (i next passes pairs visits : ℕ) (work : List ℕ) : Type 0 where
+  pub within : i ≤ n
+  pub order : FrontKept n old work
+  pub underway : (s : Schedule) → Underway s n level width 0 0 0 0 0 old → Underway s n level width i next passes pairs visits work
+
+pub swept-first : (n level width : ℕ) (old : List ℕ) → SweptTo n level width old 0 0 0 0 0 old
+swept-first n level width old = record { within = omega arith; order = front-refl n old; underway = λ s u. u }
+
+pub swept-next : (n level width : ℕ) (old : List ℕ) (i next passes pairs visits : ℕ) (work : List ℕ) (next′ passes′ pairs′ visits′ : ℕ) (work′ : List ℕ) → i < n → SteppedFrom n level width i next passes pairs visits work next′ passes′ pairs′ visits′ work′ → SweptTo n level width old i next passes pairs visits work → SweptTo n level width old (i + 1) next′ passes′ pairs′ visits′ work′
+swept-next n level width old i next passes pairs visits work next′ passes′ pairs′ visits′ work′ h t w =
+    record {
+      within = omega arith;
+      order = front-both n old work work′ (w .order) (t .order);
+      underway = λ s u. t .stepped s (w .underway s u);
+    }
+
+-- the tree is lent to be cleared
+module _ (n level width : ℕ) (work : List ℕ) (b : Sweepable n work) (shape : ShapeFor n level width) where
+  width-is : width ≡ 2 ^ levels n
+  width-is = shape .width-is ∙ ap (λ (k : ℕ). 2 ^ k) (shape .levels-are)
+
+  pub parts-room : treePart * n ≤ length work
+  parts-room = omega (arith, b .room)
+
+  pub width-some : 1 ≤ width
+  width-some = rw width-is (pow-pos (levels n))
+
+  pub tree-room : 2 * width ≤ length (take (length work - treePart * n) (treeIn n work))
+  tree-room = rw (mid-tail (treePart * n) work, length-drop (treePart * n) work, width-is) (omega (arith, b .room))
+
+  module _ (nodes : List ℕ) (same : length nodes ≡ length (take (length work - treePart * n) (treeIn n work))) (h : Cleared width (take (length work - treePart * n) (treeIn n work)) nodes) where
+    abbrev cleared : List ℕ
+    cleared = putMid (treePart * n) (length work - treePart * n) work nodes
+
+    tree-cleared : TreeChanged n width [] work cleared
+    tree-cleared = tree-back n width (λ (l : List ℕ). []) work nodes parts-room same h
+
+    pub swept-underway : (i next passes pairs visits : ℕ) (new : List ℕ) → SweptTo n level width cleared i next passes pairs visits new → Underway (scheduleIn n work) n level width i next passes pairs visits new
+    swept-underway i next passes pairs visits new w = w .underway (scheduleIn n work) (sweep-begins n level width work cleared b shape tree-cleared)
+
+    pub swept-all : (i next passes pairs visits : ℕ) (new : List ℕ) → n ≤ i → SweptTo n level width cleared i next passes pairs visits new → Swept n work pairs visits new
+    swept-all i next passes pairs visits new h w =
+        sweep-ends n level width i next passes pairs visits work new (omega (arith, b .room)) (omega (arith, w .within))
+        (swept-underway i next passes pairs visits new w)
+        (front-both n work cleared new (front-less n (treePart * n) work cleared (omega arith) (tree-cleared .front)) (w .order))

@@ -1,0 +1,162 @@
+-- The sweep over a schedule, place by place: which places are free, which wait in the segment tree, and how many of the passes are made.
+use Prim.Native.Nat.{ℕ, suc, _+_, _-_, _*_, _<_, _≤_, _^_}
+use mathlib.Core.Path.{_≡_}
+use mathlib.Core.Bool.{Bool, true, false, _||_}
+use mathlib.Core.Option.{none, some}
+use mathlib.Core.List.{List, _++_, map, List·Memᴰ as Mem}
+use lib.ListN.{length, getD, set, take}
+use lib.Dec.{eqb, ltb}
+use Rattle.model.specs.Lists.{numbersFrom, numbers, select, find, total}
+use Rattle.model.specs.Tree.{FFFF}
+use Rattle.model.specs.Jobs.{jobLimit}
+use Rattle.model.specs.Greedy.{Pass, greedy}
+use Rattle.model.specs.Visits.{levels}
+use Rattle.model.specs.Planning.{pairCount}
+use Rattle.schedule.specs.Schedule.{Schedule, places, slotAt, fromAt, toAt, dueAt, fits, passesByPlace, visitsAt, visitsOf, Sound}
+use Rattle.schedule.specs.InWork.{slotPart, fromPart, toPart, reachedPart, duePart, matePart, openerPart, treePart, scheduleIn, passAt}
+use Rattle.sweep_laws.specs.SegmentTree.{Entry, entriesIn, SegmentTree, Insertable}
+use Rattle.sweep_laws.specs.WorkCells.{FrontKept, treeIn}
+
+-- what a sweep of n places asks of the work cells
+pub record Sweepable (n : ℕ) (work : List ℕ) : Type 0 where
+  pub few : n ≤ jobLimit
+  pub room : treePart * n + 2 * 2 ^ levels n ≤ length work
+  pub sound : Sound (scheduleIn n work)
+
+-- a place that is not taken asks, or has no mate: taking it ends its span and leaves its mate
+unfoldable pub freeAt : ℕ → List ℕ → ℕ → Bool
+freeAt n work p = ltb 0 (getD work (toPart * n + p) 0) || eqb (getD work (matePart * n + p) 0) FFFF
+
+-- the places from i on that are free
+unfoldable pub remaining : ℕ → List ℕ → ℕ → List ℕ
+remaining n work i = select (freeAt n work) (numbersFrom i (n - i))
+
+-- ---- the tree
+
+module _ (s : Schedule) (n : ℕ) where
+  -- an entry of the tree: a place that waits, in its slot
+  pub record Stands (waits : ℕ → Type 0) (e : Entry) : Type 0 where
+    pub inside : e .place < n
+    pub at : e .slot ≡ slotAt s (e .place)
+    pub waiting : waits (e .place)
+
+  -- the tree holds the places that wait, and no others
+  pub record Waiting (width : ℕ) (waits : ℕ → Type 0) (nodes : List ℕ) : Type 0 where
+    pub tree : SegmentTree width nodes
+    pub held : (q : ℕ) → q < n → waits q → Mem {A = Entry} (record { slot = slotAt s q; place = q }) (entriesIn width nodes)
+    pub only : (e : Entry) → Mem e (entriesIn width nodes) → Stands waits e
+
+  -- those from place i on that are free and among the first `next` that are reached
+  abbrev pub Open : ℕ → ℕ → List ℕ → ℕ → Type 0
+  Open i next work q = (i ≤ q) × (freeAt n work q ≡ true) × Mem q (take next (s .reached))
+
+-- ---- the cells
+
+-- a schedule of n places, and the width of their tree
+pub record Setting (s : Schedule) (n width : ℕ) : Type 0 where
+  pub few : n ≤ jobLimit
+  pub places-are : places s ≡ n
+  pub sound : Sound s
+  pub width-is : width ≡ 2 ^ levels n
+
+-- the cells at the turn of place i: of the places from i on that are free they are those of the schedule
+pub record Cells (s : Schedule) (n width i : ℕ) (work : List ℕ) : Type 0 where
+  pub room : treePart * n + 2 * width ≤ length work
+  pub slot-cell : (p : ℕ) → p < n → getD work (slotPart * n + p) 0 ≡ slotAt s p
+  pub reached-cell : (r : ℕ) → r < length (s .reached) → getD work (reachedPart * n + r) 0 ≡ getD (s .reached) r 0
+  pub due-cell : (p : ℕ) → i ≤ p → p < n → getD work (duePart * n + p) 0 ≡ dueAt s p
+  pub from-cell : (p : ℕ) → i ≤ p → p < n → freeAt n work p ≡ true → getD work (fromPart * n + p) 0 ≡ fromAt s p
+  pub to-cell : (p : ℕ) → i ≤ p → p < n → freeAt n work p ≡ true → getD work (toPart * n + p) 0 ≡ toAt s p
+
+-- the sweep at place i, `next` of the places that can be found being reached
+pub record Sweeping (s : Schedule) (n width i next : ℕ) (work : List ℕ) : Type 0 where
+  pub setting : Setting s n width
+  pub cells : Cells s n width i work
+  pub taken-reached : (q : ℕ) → i ≤ q → q < n → freeAt n work q ≡ false → Mem q (take next (s .reached))
+  pub next-inside : next ≤ length (s .reached)
+  pub behind : (p : ℕ) → p < i → dueAt s p ≤ next
+  pub ahead : (p : ℕ) → i ≤ p → p < n → next ≤ dueAt s p
+  pub waiting : Waiting s n width (Open s n i next work) (treeIn n work)
+
+-- the passes made before place i stand in the cells, and the greedy rule makes the others of what remains
+pub record Made (s : Schedule) (n i : ℕ) (work : List ℕ) (passes pairs visits : ℕ) : Type 0 where
+  pub made : List Pass
+  pub rest : passesByPlace s ≡ made ++ greedy (fits s) (remaining n work i)
+  pub stands : map (passAt n work) (numbers passes) ≡ made
+  pub opener-cell : (k : ℕ) → k < passes → getD work (openerPart * n + k) 0 < i
+  pub few-passes : passes ≤ i
+  pub pairs-are : pairs ≡ total pairCount made
+  pub visits-are : visits ≡ total (visitsOf s) made
+  pub few-pairs : pairs ≤ i
+  pub few-visits : visits ≤ 49 * i
+
+-- ---- what the steps promise one another
+
+-- the sweep before the turn of place i
+pub record Underway (s : Schedule) (n level width i next passes pairs visits : ℕ) (work : List ℕ) : Type 0 where
+  pub sweeping : Sweeping s n width i next work
+  pub made : Made s n i work passes pairs visits
+  pub levels-are : level ≡ levels n
+
+-- place i is free and asks for a span that ends at `to`, with all that is due at its turn reached
+pub record Asking (s : Schedule) (n level width i next to : ℕ) (work : List ℕ) : Type 0 where
+  pub sweeping : Sweeping s n width i next work
+  pub inside : i < n
+  pub next-is : next ≡ dueAt s i
+  pub to-is : to ≡ getD work (toPart * n + i) 0
+  pub asks : 0 < to
+  pub levels-are : level ≡ levels n
+
+-- the cells with place i and its mate q paired
+abbrev pub paired : ℕ → ℕ → ℕ → List ℕ → List ℕ
+paired n i q work = set (set (set work (matePart * n + i) q) (matePart * n + q) i) (toPart * n + q) 0
+
+-- place q is the mate of place i
+pub record Mate (s : Schedule) (n i q : ℕ) (old new : List ℕ) : Type 0 where
+  pub inside : q < n
+  pub later : i < q
+  pub free : freeAt n old q ≡ true
+  pub first : find (fits s i) (remaining n old (suc i)) ≡ some q
+  pub front : FrontKept (treePart * n) (paired n i q old) new
+
+-- place i has none
+pub record NoMate (s : Schedule) (n i : ℕ) (old new : List ℕ) : Type 0 where
+  pub unfound : find (fits s i) (remaining n old (suc i)) ≡ none
+  pub front : FrontKept (treePart * n) (set old (matePart * n + i) FFFF) new
+
+-- the greedy rule's choice for place i, FFFF for none, with the visits of the lookup
+pub record Chosen (s : Schedule) (n width i next : ℕ) (old : List ℕ) (q visits : ℕ) (new : List ℕ) : Type 0 where
+  pub sweeping : Sweeping s n width (suc i) next new
+  pub visits-are : visits ≡ visitsAt s i
+  pub few-visits : visits ≤ 49
+  pub none-found : q ≡ FFFF → NoMate s n i old new
+  pub one-found : (q ≡ FFFF → ⊥) → Mate s n i q old new
+
+-- a place that is to come into the tree
+pub record PlaceInsertable (n width p : ℕ) (work : List ℕ) : Type 0 where
+  pub inside : p < n
+  pub room : treePart * n ≤ length work
+  pub insertable : Insertable width (treeIn n work) (getD work (slotPart * n + p) 0) p
+
+-- a place that is to leave the tree
+pub record PlaceRemovable (n width p : ℕ) (work : List ℕ) : Type 0 where
+  pub inside : p < n
+  pub room : treePart * n ≤ length work
+  pub tree : SegmentTree width (treeIn n work)
+  pub slot-inside : getD work (slotPart * n + p) 0 < width
+
+-- two places that are to be paired
+pub record Pairable (n i q : ℕ) (work : List ℕ) : Type 0 where
+  pub one-inside : i < n
+  pub other-inside : q < n
+  pub room : treePart * n ≤ length work
+
+-- what is due at place i is reached, `due` in all
+pub record ReachedAt (n width i next : ℕ) (old : List ℕ) (due : ℕ) (new : List ℕ) : Type 0 where
+  pub front : FrontKept (treePart * n) old new
+  pub reached : (s : Schedule) → i < n → Sweeping s n width i next old → (due ≡ dueAt s i) × Sweeping s n width i due new
+
+-- place i has had its turn
+pub record SteppedFrom (n level width i next passes pairs visits : ℕ) (old : List ℕ) (next′ passes′ pairs′ visits′ : ℕ) (new : List ℕ) : Type 0 where
+  pub order : FrontKept n old new
+  pub stepped : (s : Schedule) → Underway s n level width i next passes pairs visits old → Underway s n level width (i + 1) next′ passes′ pairs′ visits′ new
