@@ -139,8 +139,8 @@ pub fn plan(
     partners: &mut [u16],
     layouts: &mut [u16],
     work: &mut [u16],
-) -> Result<plan::Counts, Refusal> {
-    let mut counts = plan::Counts {
+) -> Result<plan::Totals, Refusal> {
+    let mut totals = plan::Totals {
         pairs: 0,
         singles: 0,
         visits: 0,
@@ -161,12 +161,12 @@ pub fn plan(
             layouts.len(),
             work.as_mut_ptr(),
             work.len(),
-            &mut counts.pairs,
-            &mut counts.singles,
-            &mut counts.visits,
+            &mut totals.pairs,
+            &mut totals.singles,
+            &mut totals.visits,
         )
     };
-    unpacked(answer).map(|()| counts)
+    unpacked(answer).map(|()| totals)
 }
 
 /// The whole run.

@@ -6,19 +6,19 @@ use crate::examples::{marked, Example, Said};
 use crate::lent::Lent;
 use crate::made::tables::{any_parents, path, table, table_of_size, Reach, Size};
 use crate::made::Generator;
-use crate::reference::plan::{plan, Counts, Room};
+use crate::reference::plan::{plan, Room, Totals};
 use crate::reference::rivals::{keeps_rules, most_before_cuts, pairs_before_cuts, pairs_of};
 use crate::reference::tree::ancestors;
 use crate::reference::{Refusal, Table, ABSENT, JOB_LIMIT, LAYOUT_LIMIT, WORK_CELLS};
-use crate::report::{Outcome, Report, Tally};
+use crate::report::{AnswerCounts, Outcome, Report};
 
 /// *Plan*: a table, the partner and layout results, the work cells.
 pub type Planner<'a> =
-    &'a dyn Fn(&Table, &mut [u16], &mut [u16], &mut [u16]) -> Result<Counts, Refusal>;
+    &'a dyn Fn(&Table, &mut [u16], &mut [u16], &mut [u16]) -> Result<Totals, Refusal>;
 
 /// Every group of checks.
 pub fn run(report: &mut Report, planner: Planner) {
-    let mut tally = Tally::default();
+    let mut answers = AnswerCounts::default();
     report.listed("document 01's tables", marked(), |example| {
         check_example(planner, &example)
     });
@@ -28,28 +28,28 @@ pub fn run(report: &mut Report, planner: Planner) {
     report.made("exhaustive search at every cut", 20_000, |generator| {
         check_at_every_cut(planner, &table_for_search(generator), generator)
     });
-    let mut tallied = |table: &Table, room: Room, generator: &mut Generator| -> Outcome {
-        tally.add(&call(planner, table, room, generator)?);
+    let mut counted = |table: &Table, room: Room, generator: &mut Generator| -> Outcome {
+        answers.add(&call(planner, table, room, generator)?);
         Ok(())
     };
     report.made("made tables", 10_000, |generator| {
         let mut table = table(generator);
         vary_marks(&mut table, generator);
-        tallied(&table, room(&table, generator), generator)
+        counted(&table, room(&table, generator), generator)
     });
     report.made("tables at the limits", 60, |generator| {
         let table = table_of_size(limit_size(generator), generator);
-        tallied(&table, exact_room(&table), generator)
+        counted(&table, exact_room(&table), generator)
     });
     report.made("refused tables", 20_000, |generator| {
         let table = wrong_table(generator);
-        tallied(&table, room(&table, generator), generator)
+        counted(&table, room(&table, generator), generator)
     });
     report.made("tables over a limit", 200, |generator| {
         let table = large_table(generator);
-        tallied(&table, room(&table, generator), generator)
+        counted(&table, room(&table, generator), generator)
     });
-    report.tally(&tally, &[0, 3, 4, 5, 6, 8], 50);
+    report.answer_counts(&answers, &[0, 3, 4, 5, 6, 8], 50);
 }
 
 /// One call, with everything lent, beside the reference: the partner cells or the refusal, or what
@@ -65,7 +65,7 @@ fn call(
     let mut work = Lent::new(room.work, generator);
     let answer = planner(table, partners.cells(), layouts.cells(), work.cells());
     let expected = plan(table, room);
-    let expected_answer = expected.as_ref().map(|plan| plan.counts);
+    let expected_answer = expected.as_ref().map(|plan| plan.totals);
     if answer.as_ref() != expected_answer.as_ref().map_err(|refusal| *refusal) {
         return Err(format!("the answer is {answer:?}, not {expected_answer:?}"));
     }
@@ -92,7 +92,7 @@ fn holds_over(lent: &Lent<u16>, name: &str, written: &[u16]) -> Outcome {
     lent.holds(name, &expected)
 }
 
-/// The pairs handed back keep the rules, and no rival has more in front of any cut.
+/// The pairs given back keep the rules, and no rival has more in front of any cut.
 fn check_at_every_cut(planner: Planner, table: &Table, generator: &mut Generator) -> Outcome {
     let answer = call(planner, table, exact_room(table), generator)?;
     let partners = answer.map_err(|refusal| format!("refused: {refusal:?}"))?;
@@ -115,9 +115,9 @@ pub fn check_example(planner: Planner, example: &Example) -> Outcome {
     let (mut partners, mut layouts) = (vec![1; room.partners], vec![1; room.layouts]);
     let answer = planner(table, &mut partners, &mut layouts, &mut [1; WORK_CELLS]);
     let said = match (&example.said, answer) {
-        (Said::Pairs(pairs), Ok(counts)) => {
+        (Said::Pairs(pairs), Ok(totals)) => {
             let singles = table.jobs() - 2 * pairs.len();
-            let passes = (usize::from(counts.pairs), usize::from(counts.singles));
+            let passes = (usize::from(totals.pairs), usize::from(totals.singles));
             passes == (pairs.len(), singles) && (partners, layouts) == cells_of(table, pairs)
         }
         (Said::Refused(number, place, _), Err(refusal)) => {
@@ -212,7 +212,7 @@ fn make_wrong(table: &mut Table, generator: &mut Generator) {
         0 | 1 => &mut table.parents,
         2 | 3 => &mut table.tops,
         4 | 5 => &mut table.bottoms,
-        6 => return lose_or_gain(table, generator),
+        6 => return shorten_or_lengthen(table, generator),
         _ => return mark_any(table, generator),
     };
     if !cells.is_empty() {
@@ -221,7 +221,7 @@ fn make_wrong(table: &mut Table, generator: &mut Generator) {
     }
 }
 
-fn lose_or_gain(table: &mut Table, generator: &mut Generator) {
+fn shorten_or_lengthen(table: &mut Table, generator: &mut Generator) {
     match generator.below(6) {
         0 => drop(table.tops.pop()),
         1 => drop(table.bottoms.pop()),

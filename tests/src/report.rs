@@ -17,11 +17,11 @@ pub type Outcome = Result<(), String>;
 
 /// How often each answer came, by the number of the refusal; 0 for none.
 #[derive(Default)]
-pub struct Tally {
+pub struct AnswerCounts {
     counts: [u64; 9],
 }
 
-impl Tally {
+impl AnswerCounts {
     pub fn add<T>(&mut self, answer: &Result<T, Refusal>) {
         let number = answer.as_ref().err().map_or(0, |refusal| refusal.number);
         self.counts[usize::from(number)] += 1;
@@ -100,11 +100,11 @@ impl Report {
 
     /// How often each answer came, and that each of the numbers named came at least `least` times;
     /// 0 stands for no refusal.
-    pub fn tally(&mut self, tally: &Tally, numbers: &[usize], least: u64) {
+    pub fn answer_counts(&mut self, answers: &AnswerCounts, numbers: &[usize], least: u64) {
         if self.only.is_some() {
             return;
         }
-        let counts = tally.counts;
+        let counts = answers.counts;
         println!(
             "{}: no refusal, and refusals 1 to 8: {counts:?}",
             self.program

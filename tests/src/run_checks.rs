@@ -4,7 +4,7 @@
 
 use crate::examples::{marked, BAKEHOUSE_BYTES, BAKEHOUSE_PLAN, READINGS};
 use crate::lent::Lent;
-use crate::made::damage::{damaged, damaged_often, loose_lines, DAMAGES};
+use crate::made::damage::{damaged, damaged_often, nearly_right_lines, DAMAGES};
 use crate::made::tables::{table, table_of_size, Size};
 use crate::made::Generator;
 use crate::reference::run::run_into;
@@ -76,7 +76,7 @@ fn room(generator: &mut Generator) -> usize {
 
 fn damaged_table(generator: &mut Generator) -> Vec<u8> {
     if generator.one_in(3) {
-        return loose_lines(generator);
+        return nearly_right_lines(generator);
     }
     let table = table(generator);
     if generator.one_in(3) {

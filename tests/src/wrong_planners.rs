@@ -1,9 +1,9 @@
 //! The planners that document 01 says must not get through ("Plans that look fine"), each with the
 //! table that catches it. The checks of *Plan* are tried on them: a check that accepts one of these
-//! is worth nothing.
+//! checks nothing.
 
 use crate::reference::paths::paths;
-use crate::reference::plan::{elimination_order, plan_of, with_counts, Counts, Plan};
+use crate::reference::plan::{plan_of, running_order, with_totals, Plan, Totals};
 use crate::reference::tree::{depth, settled};
 use crate::reference::{Refusal, Table, WORK_CELLS};
 
@@ -24,14 +24,14 @@ impl WrongPlanner {
         partners: &mut [u16],
         layouts: &mut [u16],
         work: &mut [u16],
-    ) -> Result<Counts, Refusal> {
+    ) -> Result<Totals, Refusal> {
         let plan = (self.plan)(table)?;
         if self.writes {
             partners[..table.jobs()].copy_from_slice(&plan.partners);
             layouts[..table.jobs()].copy_from_slice(&plan.layouts);
         }
         work[..WORK_CELLS].fill(0);
-        Ok(plan.counts)
+        Ok(plan.totals)
     }
 }
 
@@ -50,7 +50,11 @@ fn wrong(
 
 pub fn wrong_planners() -> Vec<WrongPlanner> {
     vec![
-        wrong("the barest tops first", "two leaves", barest_first),
+        wrong(
+            "the shallowest tops first",
+            "two leaves",
+            shallowest_tops_first,
+        ),
         wrong("a later partner", "a chain of two", last_partner),
         wrong("spans without depths", "no shared layout", spans_alone),
         wrong("count minus one", "two jobs", without_last),
@@ -68,8 +72,8 @@ pub fn wrong_planners() -> Vec<WrongPlanner> {
     ]
 }
 
-/// A matching by the greedy rule over some order, sharing test and choice, with the right cell
-/// count.
+/// A matching by the greedy rule over some order, sharing test and choice, with the right number
+/// of visits.
 fn greedy(
     table: &Table,
     order: &[usize],
@@ -89,7 +93,7 @@ fn greedy(
             partners[other] = Some(job);
         }
     }
-    with_counts(table, partners, plan_of(table).counts.visits)
+    with_totals(table, partners, plan_of(table).totals.visits)
 }
 
 /// The greedy rule by definition, but for the order and the choice.
@@ -99,14 +103,14 @@ fn greedy_by(table: &Table, order: &[usize], choose: fn(&[usize]) -> Option<&usi
     greedy(table, order, &shares, choose)
 }
 
-fn barest_first(table: &Table) -> Result<Plan, Refusal> {
+fn shallowest_tops_first(table: &Table) -> Result<Plan, Refusal> {
     let mut order: Vec<usize> = (0..table.jobs()).collect();
     order.sort_by_key(|&job| depth(&table.parents, table.tops[job]));
     Ok(greedy_by(table, &order, |candidates| candidates.first()))
 }
 
 fn last_partner(table: &Table) -> Result<Plan, Refusal> {
-    let order = elimination_order(table);
+    let order = running_order(table);
     Ok(greedy_by(table, &order, |candidates| candidates.last()))
 }
 
@@ -117,14 +121,14 @@ fn spans_alone(table: &Table) -> Result<Plan, Refusal> {
         let leaf = tree.firsts[usize::from(table.bottoms[other])];
         tree.firsts[top] <= leaf && leaf <= tree.lasts[top]
     };
-    let order = elimination_order(table);
+    let order = running_order(table);
     Ok(greedy(table, &order, &in_span, |candidates| {
         candidates.first()
     }))
 }
 
 fn without_last(table: &Table) -> Result<Plan, Refusal> {
-    let order = elimination_order(table);
+    let order = running_order(table);
     let kept = order.len().saturating_sub(1);
     Ok(greedy_by(table, &order[..kept], |candidates| {
         candidates.first()
@@ -134,31 +138,31 @@ fn without_last(table: &Table) -> Result<Plan, Refusal> {
 fn opening_pair(table: &Table) -> Result<Plan, Refusal> {
     let plan = plan_of(table);
     let mut partners = vec![None; table.jobs()];
-    if let Some(&job) = elimination_order(table).first() {
+    if let Some(&job) = running_order(table).first() {
         let other = usize::from(plan.partners[job]);
         if other < table.jobs() {
             partners[job] = Some(other);
             partners[other] = Some(job);
         }
     }
-    Ok(with_counts(table, partners, plan.counts.visits))
+    Ok(with_totals(table, partners, plan.totals.visits))
 }
 
 fn all_single(table: &Table) -> Result<Plan, Refusal> {
-    let visits = plan_of(table).counts.visits;
-    Ok(with_counts(table, vec![None; table.jobs()], visits))
+    let visits = plan_of(table).totals.visits;
+    Ok(with_totals(table, vec![None; table.jobs()], visits))
 }
 
 fn invented_count(table: &Table) -> Result<Plan, Refusal> {
     let mut plan = plan_of(table);
-    plan.counts.visits = 7 * table.jobs() as u32;
+    plan.totals.visits = 7 * table.jobs() as u32;
     Ok(plan)
 }
 
-/// "No partner" reported at the topmost cell.
+/// "No partner" reported at the root.
 fn no_lookup(table: &Table) -> Result<Plan, Refusal> {
     let visits = (0..table.jobs()).filter(|&job| !table.solo(job)).count();
-    Ok(with_counts(table, vec![None; table.jobs()], visits as u32))
+    Ok(with_totals(table, vec![None; table.jobs()], visits as u32))
 }
 
 fn refuse_all(_: &Table) -> Result<Plan, Refusal> {

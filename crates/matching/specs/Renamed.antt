@@ -1,8 +1,8 @@
 -- The greedy rule under other names for its vertices: where each vertex has a name of its own, and names are related as their vertices are, the passes
 -- of the names are the names of the passes.
-use Prim.Native.Nat.{ℕ, _+_}
+use Prim.Native.Nat.{ℕ}
 use mathlib.Core.Path.{_≡_, refl, sym, ap, _∙_}
-use mathlib.Core.Logic.{⊎-elim, _≢_}
+use mathlib.Core.Logic.{⊎-elim}
 use mathlib.Core.Bool.{Bool, true, false}
 use mathlib.Core.Option.{Option, none, some}
 use mathlib.Core.List.{List, [], _∷_, map, List·Memᴰ as Mem, List·Memᴰ·head as here, List·Memᴰ·tail as there}
@@ -11,7 +11,7 @@ use native.Mathlib.Omega.{arith}
 use Rattle.model.specs.Lists.{find, select, total, All, AllPairs}
 use Rattle.model.specs.Greedy.{Pass, pair, single, without, greedy}
 use Rattle.model.specs.Planning.{pairCount}
-use Rattle.tree_laws.specs.Lists.{answers, all-mem}
+use Rattle.tree_laws.specs.Lists.{answers}
 use Rattle.matching.specs.Lists.{find-some, without-mem, without-pairwise, without-drop, without-keep}
 use Rattle.matching.specs.Passes.{greedy-done, greedy-with, greedy-alone, Run, done, joined, alone, greedy-run}
 

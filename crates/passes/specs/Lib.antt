@@ -1,2 +1,4 @@
 pub mod Read
 pub mod OfTable
+pub mod PlanPass
+pub mod Making

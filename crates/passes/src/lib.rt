@@ -1,6 +1,7 @@
-// The passes of a plan, read off the work cells that a sweep leaves (document 01, "The plan").
+// The passes of a plan (document 01, "The plan"): made in the work cells, from a table to its schedule and by a sweep over it, and read off them.
 use model::JobNumber;
 use model::LayoutNumber;
+use model::Totals;
 use schedule::job_at;
 use schedule::mate_at;
 use schedule::opener_at;
@@ -8,14 +9,42 @@ use settle::TREE;
 ghost use mathlib.Core.Path.{_≡_};
 ghost use Prim.Native.Nat.{_<_};
 ghost use lib.ListN.{length, getD};
+ghost use Rattle.model.specs.Jobs.{tableOf};
 ghost use Rattle.settle.specs.Spanned.{Spanned};
+ghost use Rattle.jobs.specs.Accepted.{Accepted};
 ghost use Rattle.ancestry.specs.Ancestry.{JumpPointers};
+ghost use Rattle.passes.specs.Making.{Roomy, Made};
 ghost use Rattle.passes.specs.Read.{PassCells, PairCells, PairRead, PassRead};
 
 // A pass of the press: two jobs, the earlier first, with the layout that they print on, or one job alone.
 pub enum Pass {
     Pair(JobNumber, JobNumber, LayoutNumber),
     Single(JobNumber),
+}
+
+// Makes the passes of an accepted table in the work cells, and answers what they come to.
+pub fn make_passes(
+    parents: &[u16],
+    tree: &[u16; TREE],
+    tops: &[u16],
+    bottoms: &[u16],
+    marks: &[u8],
+    work: &mut [u16],
+) -> Totals
+    requires { ⌜ Accepted (tableOf (now parents) (now tops) (now bottoms) (now marks)) ⌝ }
+    requires { ⌜ Spanned (now parents) (now tree) ⌝ }
+    requires { ⌜ Roomy (length (now tops)) (now work) ⌝ }
+    ensures { λ r. ⌜ Made (tableOf (now (parents .entry)) (now (tops .entry)) (now (bottoms .entry)) (now (marks .entry))) (now (parents .entry)) (now (tree .entry)) (now (bottoms .entry)) (now (work .entry)) r (now (work .exit)) ⌝ }
+{
+    let count = tops.len();
+    prepare::prepare(parents, tree, tops, bottoms, marks, work);
+    let matched = sweep::sweep(work, count);
+    let pairs = matched.pairs as usize;
+    Totals {
+        pairs: matched.pairs,
+        singles: (count - 2 * pairs) as u16,
+        visits: matched.visits,
+    }
 }
 
 // The bottom of a job.

@@ -1,5 +1,5 @@
 -- The outcome of *Plan*: refused with nothing changed, or the plan in the results, which no rival beats.
-use Prim.Native.Nat.{ℕ, _+_, _-_, _*_, _^_, _≤_, _<_}
+use Prim.Native.Nat.{ℕ, _≤_}
 use mathlib.Core.Path.{_≡_, refl, sym, ap, _∙_}
 use mathlib.Core.List.{List, _++_}
 use native.Mathlib.Omega.{arith}
@@ -7,8 +7,7 @@ use lib.ListN.{length, take, drop, replicate}
 use lib.Seq.{length-take-le}
 use Rattle.model.specs.Verdict.{Verdict, accepted, refused, refuses}
 use Rattle.model.specs.Jobs.{Table, tableOf, jobs, jobLimit}
-use Rattle.model.specs.Greedy.{passes}
-use Rattle.model.specs.Visits.{levels, cellCount}
+use Rattle.model.specs.Visits.{cellCount}
 use Rattle.model.specs.Planning as Planning
 use Rattle.model.specs.Planning.{workCells, jobsVerdict}
 use Rattle.model.specs.Answers.{plannedAnswer}
@@ -17,20 +16,15 @@ use Rattle.model.specs.declared.Planned.{Planned}
 use Rattle.model.specs.declared.Planned.the-variants as planned
 use Rattle.model.specs.declared.Refusal.{Refusal}
 use Rattle.model.specs.declared.Totals.{Totals}
-use Rattle.matching.specs.Partners.{jobs-counted, passes-length}
 use Rattle.matching.specs.MaximumAtEveryCut.{our-plan-maximum}
 use Rattle.settle.specs.Spanned.{Spanned}
 use Rattle.jobs.specs.Accepted.{Accepted, Lent, table-accepted}
 use Rattle.jobs.specs.Checks.{checkVerdict}
 use Rattle.jobs.specs.declared.JobCheck.{JobCheck}
 use Rattle.jobs.specs.declared.JobCheck.the-variants as check
-use Rattle.schedule.specs.InWork.{Swept}
-use Rattle.schedule.specs.OfTable.{Prepared}
-use Rattle.schedule_laws.specs.Theorem.{schedule-sound}
 use Rattle.sweep_laws.specs.Room.{sweep-room}
-use Rattle.sweep_laws.specs.Sweeping.{Sweepable}
-use Rattle.passes.specs.OfTable.{swept-plan, swept-pairs, swept-visits}
-use Rattle.planner.specs.HandBack.{Plan, Returned}
+use Rattle.passes.specs.Making.{Roomy, Made}
+use Rattle.planner.specs.HandBack.{Returned}
 
 -- results of one cell for each of n jobs, and the work cells
 pub record Room (n : ℕ) (partners printed work : List ℕ) : Type 0 where
@@ -49,49 +43,20 @@ pub record Filled (tb : Table) (t : Totals) (partners printed work : List ℕ) :
 
 -- ---- the steps of planning
 
-module _ (tb : Table) (a : Accepted tb) where
-  -- the prepared work cells can be swept
-  pub ready : (work : List ℕ) → length work ≡ workCells → Prepared tb work → Sweepable (jobs tb) work
-  ready work room p =
-      record {
-        few = a .few;
-        room = omega (arith, room, sweep-room (jobs tb) 12 (a .few));
-        sound = rw (p .schedule-is) (schedule-sound tb a);
-      }
+-- the work cells are enough for any table
+pub enough : (n : ℕ) (work : List ℕ) → n ≤ jobLimit → length work ≡ workCells → Roomy n work
+enough n work few room = omega (arith, room, sweep-room n 12 few)
 
-  module _ (ps tree bottoms old new : List ℕ) (parents-are : tb .parents ≡ ps) (bottoms-are : tb .bottoms ≡ bottoms) (s : Spanned ps tree)
-      (room : length old ≡ workCells) (p : Prepared tb old) (pairs visits : ℕ) (w : Swept (jobs tb) old pairs visits new) where
-    pub pairs-are : pairs ≡ Planning.pairs tb
-    pairs-are = swept-pairs tb a old new pairs visits p w
-
-    pub visits-are : visits ≡ cellCount tb
-    visits-are = swept-visits tb a old new pairs visits p w
-
-    -- as many passes as jobs less pairs, and two jobs to a pair
-    pub pairs-few : 2 * pairs ≤ jobs tb
-    pairs-few = omega (arith, pairs-are, jobs-counted tb)
-
-    pub plan-left : Plan tb ps tree bottoms new (jobs tb - pairs)
-    plan-left =
-        record {
-          parents-are = parents-are;
-          bottoms-are = bottoms-are;
-          table = a;
-          spanned = s;
-          plan = swept-plan tb a old new pairs visits (omega (arith, room, a .few)) p w;
-          count-is = omega (arith, pairs-are, jobs-counted tb, passes-length tb);
-        }
-
-    pub filled : (t : Totals) (partners printed work : List ℕ) → t .pairs ≡ pairs → t .singles ≡ jobs tb - 2 * pairs → t .visits ≡ visits → Returned tb partners printed → work ≡ replicate workCells 0 → Filled tb t partners printed work
-    filled t partners printed work tp ts tv r e =
-        record {
-          pairs-are = tp ∙ pairs-are;
-          singles-are = ts ∙ omega (arith, pairs-are, jobs-counted tb);
-          visits-are = tv ∙ visits-are;
-          partners-are = r .partners-are;
-          printed-are = r .printed-are;
-          work-is = e;
-        }
+pub filled : (tb : Table) (ps tree bottoms old : List ℕ) (t : Totals) (new partners printed work : List ℕ) → Made tb ps tree bottoms old t new → Returned tb partners printed → work ≡ replicate workCells 0 → Filled tb t partners printed work
+filled tb ps tree bottoms old t new partners printed work m r e =
+    record {
+      pairs-are = m .totals .pairs-are;
+      singles-are = m .totals .singles-are;
+      visits-are = m .totals .visits-are;
+      partners-are = r .partners-are;
+      printed-are = r .printed-are;
+      work-is = e;
+    }
 
 -- ---- outcomes
 

@@ -8,7 +8,8 @@ ghost use Prim.Native.Nat.{_<_};
 ghost use lib.ListN.{length, set};
 ghost use Rattle.model.specs.Tree.{FFFF};
 ghost use Rattle.model.specs.Jobs.{Table};
-ghost use Rattle.planner.specs.HandBack.{partnersWith, printedWith, Inside, Plan, Returned};
+ghost use Rattle.passes.specs.PlanPass.{Plan};
+ghost use Rattle.planner.specs.HandBack.{partnersWith, printedWith, Inside, Returned};
 
 // Each of two jobs finds the other.
 fn set_partners(partners: &mut [u16], one: JobNumber, other: JobNumber)

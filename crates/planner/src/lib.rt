@@ -37,25 +37,11 @@ fn plan_accepted(
     requires { ⌜ Room (length (now tops)) (now partners) (now printed) (now work) ⌝ }
     ensures { λ r. ⌜ Filled (tableOf (now (parents .entry)) (now (tops .entry)) (now (bottoms .entry)) (now (marks .entry))) r (now (partners .exit)) (now (printed .exit)) (now (work .exit)) ⌝ }
 {
-    let count = tops.len();
-    prepare::prepare(parents, tree, tops, bottoms, marks, work);
-    let matched = sweep::sweep(work, count);
-    let pairs = matched.pairs as usize;
-    hand_back::hand_back(
-        parents,
-        tree,
-        bottoms,
-        work,
-        count - pairs,
-        partners,
-        printed,
-    );
+    let totals = passes::make_passes(parents, tree, tops, bottoms, marks, work);
+    let count = totals.pairs as usize + totals.singles as usize;
+    hand_back::hand_back(parents, tree, bottoms, work, count, partners, printed);
     buffers::fill(work, 0);
-    Totals {
-        pairs: matched.pairs,
-        singles: (count - 2 * pairs) as u16,
-        visits: matched.visits,
-    }
+    totals
 }
 
 // The refusal of a call, with nothing written.

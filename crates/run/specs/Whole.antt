@@ -1,165 +1,80 @@
--- What the steps of the whole run promise one another, and how its outcome follows (document 01, *Whole run* of "What each operation turns away").
--- Assumes nothing.
-use Prim.Native.Nat.{ℕ, _-_, _<_, _≤_}
-use mathlib.Core.Path.{_≡_, refl, sym, ap, subst, _∙_}
-use mathlib.Core.List.{List, [], _++_, flatMap, map, append-nil}
+-- The whole run put together: arrays with room for the jobs of the input, and what the run prints and answers.
+use Prim.Native.Nat.{ℕ, _+_, _-_, _*_, _^_, _≤_, _<_}
+use mathlib.Core.Path.{_≡_, refl, sym, ap, _∙_}
+use mathlib.Core.List.{List}
+use native.Mathlib.Nat.{sub-zero}
 use native.Mathlib.Omega.{arith}
-use lib.ListN.{length, getD, take, drop, replicate, length-append, length-take, length-map, length-replicate, List·getD-append}
-use lib.Seq.{length-take-le, length-front}
+use lib.ListN.{length, take, replicate, length-replicate}
+use lib.Seq.{length-take-le}
 use borrow.Author.Tests.{lt-ltb, le-ltb}
-use Rattle.model.specs.Lists.{numbers}
-use Rattle.model.specs.Tree.{FFFF}
-use Rattle.model.specs.Jobs.{Table, jobs, jobLimit}
-use Rattle.model.specs.Greedy.{passes}
-use Rattle.model.specs.Visits.{cellCount}
-use Rattle.model.specs.Planning as Planning
-use Rattle.model.specs.Planning.{partnerIn, printed, pairs, singles}
-use Rattle.model.specs.Table.{Reading, read, stopped, readTable}
-use Rattle.model.specs.Output.{passLine, totalsLine, planBytes, refusalBytes, readingBytes, runBytes, outputVerdict, runLength, runOutput}
+use Rattle.model.specs.Tree.{FFFF, layoutLimit}
+use Rattle.model.specs.Jobs.{jobLimit}
+use Rattle.model.specs.Table.{Reading, stopped, readTable}
+use Rattle.model.specs.Output.{planBytes, refusalBytes, readingBytes, runBytes, outputBytes, outputVerdict, runLength, runOutput}
 use Rattle.model.specs.Outcomes.{RunOutcome}
 use Rattle.model.specs.declared.Refusal.{Refusal}
-use Rattle.model.specs.declared.Counts.{Counts}
-use Rattle.model.specs.declared.TableRead.{TableRead}
-use Rattle.model.specs.declared.TableRead.the-variants as table-read
-use Rattle.tree_laws.specs.Numbers.{numbers-length, numbers-at}
-use Rattle.table.specs.Steps.{Unused, BuffersReady, TableHeld, LinesOutcome}
-use Rattle.orders.specs.Accepted.{Accepted, plan-accepted}
-use Rattle.sweeping.specs.Steps.{WorkedOut}
-use Rattle.run.specs.Writing.{Appended, sumsLine, Printed, printed-all}
-use Rattle.run.specs.Sound.{read-accepted}
-use Rattle.run.specs.Printing.{PlanAt, Printing, printing-all, lines-room}
+use Rattle.lines.specs.Writing.{Printed}
+use Rattle.sweep_laws.specs.Room.{sweep-room}
+use Rattle.passes.specs.Making.{Roomy}
+use Rattle.table.specs.Steps.{Unused, Room, BuffersReady, held}
+use Rattle.table.specs.Whole.{TableHeld}
 
--- the running order stands in the work cells and the plan in the results, and there is room for the lines
-pub record PassesReady (tb : Table) (order partners layouts out : List ℕ) : Type 0 where
-  pub plan : PlanAt tb order partners layouts
-  pub order-length : length order ≡ 32768
-  pub partners-room : jobs tb ≤ length partners
-  pub layouts-room : jobs tb ≤ length layouts
-  pub room : 32768 ≤ length out
+-- clear arrays with room for every job that the input can hold within the limit, and work cells for as many jobs as have room
+pub record ArraysFor (input tops bottoms marks work : List ℕ) : Type 0 where
+  pub tops-room : Room input tops
+  pub bottoms-room : Room input bottoms
+  pub marks-room : Room input marks
+  pub tops-clear : Unused FFFF 0 tops
+  pub bottoms-clear : Unused FFFF 0 bottoms
+  pub marks-clear : Unused 0 0 marks
+  pub work-room : (m : ℕ) → m ≤ length tops → m ≤ jobLimit → Roomy m work
 
--- the output holds the lines of the passes up to r
-pub record PassesPut (tb : Table) (out : List ℕ) (r : ℕ) (out′ : List ℕ) : Type 0 where
-  pub few : r ≤ 30720
-  pub sized : length out′ ≡ length out
-  pub holds : take r out′ ≡ flatMap (passLine tb) (passes tb)
+-- ---- arrays
 
--- the totals are those of the plan too
-pub record PlanReady (tb : Table) (order partners layouts : List ℕ) (p s v : ℕ) (out : List ℕ) : Type 0 where
-  pub ready : PassesReady tb order partners layouts out
-  pub pairs-are : p ≡ pairs tb
-  pub singles-are : s ≡ singles tb
-  pub visits-are : v ≡ cellCount tb
+clear-array : (n v : ℕ) → Unused v 0 (replicate n v)
+clear-array n v = rw (sub-zero (length (replicate n v)), length-replicate n v) refl
 
--- ---- the lines
-
-pub passes-put : (tb : Table) (out : List ℕ) (p : ℕ) (seen : List ℕ) (at : ℕ) (out′ : List ℕ) → jobs tb ≤ p → jobs tb ≤ jobLimit → Printing tb p seen at out′ → length out′ ≡ length out → PassesPut tb out at out′
-passes-put tb out p seen at out′ h few g same =
-    let holds : take at out′ ≡ flatMap (passLine tb) (passes tb) = printing-all tb p seen at out′ h g in
+-- arrays for 2 ^ l jobs, where no more fit into the input or none more are allowed
+pub arrays : (input : List ℕ) (l : ℕ) → ((m : ℕ) → m < jobLimit → 11 * m + 11 ≤ length input → m < 2 ^ l) → ArraysFor input (replicate (2 ^ l) FFFF) (replicate (2 ^ l) FFFF) (replicate (2 ^ l) 0) (replicate (8 * 2 ^ l) 0)
+arrays input l fits =
     record {
-      few = omega (arith, sym (length-take-le at out′ (g .within)) ∙ ap length holds, lines-room tb few (passes tb) [] (sym (append-nil (passes tb))));
-      sized = same;
-      holds = holds;
+      tops-room = λ m h k. rw (length-replicate (2 ^ l) FFFF) (fits m h k);
+      bottoms-room = λ m h k. rw (length-replicate (2 ^ l) FFFF) (fits m h k);
+      marks-room = λ m h k. rw (length-replicate {A = ℕ} (2 ^ l) 0) (fits m h k);
+      tops-clear = clear-array (2 ^ l) FFFF;
+      bottoms-clear = clear-array (2 ^ l) FFFF;
+      marks-clear = clear-array (2 ^ l) 0;
+      work-room = λ m h k. rw (length-replicate {A = ℕ} (8 * 2 ^ l) 0) (sweep-room m l (rw (length-replicate (2 ^ l) FFFF) at h));
     }
 
--- and the totals after them
-pub plan-printed : (tb : Table) (order partners layouts : List ℕ) (p s v : ℕ) (out : List ℕ) (r : ℕ) (out₁ : List ℕ) (n : ℕ) (out₂ out₃ : List ℕ) → PlanReady tb order partners layouts p s v out → PassesPut tb out r out₁ → Appended 19 r (sumsLine p s v) out₁ n out₂ → out₃ ≡ take n out₂ ++ replicate (length out₂ - n) 0 → Printed (planBytes tb) out n out₃
-unfolding planBytes totalsLine sumsLine
-plan-printed tb order partners layouts p s v out r out₁ n out₂ out₃ ready put a z =
-    printed-all (planBytes tb) out n out₂ out₃ (a .sized ∙ put .sized) (omega (arith, a .moved, a .sized, put .sized, put .few, ready .ready .room))
-    (a .holds ∙ rw (put .holds, ready .pairs-are, ready .singles-are, ready .visits-are) refl) z
-
--- ---- what was worked out can be printed
-
--- a result that begins with one cell for each job
-module _ (tb : Table) (f : ℕ → ℕ) (rest : List ℕ) where
-  result-length : length (map f (numbers (jobs tb))) ≡ jobs tb
-  result-length = length-map (numbers (jobs tb)) f ∙ numbers-length (jobs tb)
-
-  result-room : jobs tb ≤ length (map f (numbers (jobs tb)) ++ rest)
-  result-room = omega (arith, length-append (map f (numbers (jobs tb))) rest, result-length)
-
-  result-at : (j : ℕ) → j < jobs tb → getD (map f (numbers (jobs tb)) ++ rest) j 0 ≡ f j
-  result-at j h = List·getD-append (map f (numbers (jobs tb))) rest 0 j (omega (arith, result-length)) ∙ numbers-at f (jobs tb) j 0 h
-
--- a result for as many jobs as there can be, of which the first n cells are lent
-abbrev blank : List ℕ
-blank = replicate 4096 0
-
-pub lent-length : (n : ℕ) → n ≤ jobLimit → length (take n blank) ≡ n
-lent-length n few = length-take-le n blank (rw (length-replicate {A = ℕ} 4096 0) few)
-
-pub back-length : (n : ℕ) (cells : List ℕ) → length cells ≡ length (take n blank) → length (cells ++ drop n blank) ≡ 4096
-back-length n cells same = length-front blank cells n same ∙ length-replicate {A = ℕ} 4096 0
-
-pub plan-ready : (tb : Table) (p s v : ℕ) (partners layouts work behind further out : List ℕ) → Accepted tb → WorkedOut tb p s v partners layouts work → 32768 ≤ length out → PlanReady tb work (partners ++ behind) (layouts ++ further) p s v out
-unfolding Planning.partners Planning.layouts
-plan-ready tb p s v partners layouts work behind further out a w room =
+-- and clear parents beside them
+pub run-ready : (input parents tops bottoms marks work : List ℕ) → parents ≡ replicate layoutLimit FFFF → ArraysFor input tops bottoms marks work → BuffersReady input parents tops bottoms marks
+run-ready input parents tops bottoms marks work e a =
     record {
-      ready =
-          record {
-            plan =
-                record {
-                  few = a .few;
-                  order-at = w .order-at;
-                  partner-at = λ j h. rw (w .made .partners-are) (result-at tb (partnerIn (passes tb)) behind j h);
-                  layout-at = λ j h. rw (w .made .layouts-are) (result-at tb (printed tb) further j h);
-                };
-            order-length = w .work-length;
-            partners-room = rw (w .made .partners-are) (result-room tb (partnerIn (passes tb)) behind);
-            layouts-room = rw (w .made .layouts-are) (result-room tb (printed tb) further);
-            room = room;
-          };
-      pairs-are = w .made .pairs-are;
-      singles-are = w .made .singles-are;
-      visits-are = w .made .visits-are;
+      room = record { parents-room = rw (e, length-replicate layoutLimit FFFF) (omega arith); tops-room = a .tops-room; bottoms-room = a .bottoms-room; marks-room = a .marks-room };
+      clear = record { parents-spare = rw e (clear-array layoutLimit FFFF); tops-spare = a .tops-clear; bottoms-spare = a .bottoms-clear; marks-spare = a .marks-clear };
     }
 
--- a table that was read is one that *Plan* accepts
-pub read-right : (bytes : List ℕ) (tb : Table) → readTable bytes ≡ read tb → Accepted tb
-read-right bytes tb is = plan-accepted tb (jobs tb) (jobs tb) 32768 (read-accepted bytes tb is (jobs tb) (jobs tb) 32768 (omega arith) (omega arith) (omega arith))
+-- ---- what is printed
 
--- ---- the whole run
+pub refusal-printed : (input output : List ℕ) (r : Refusal) (n : ℕ) (output′ : List ℕ) → readTable input ≡ stopped (r .number) (r .place) → Printed (refusalBytes (r .number) (r .place)) output n output′ → Printed (runBytes input) output n output′
+unfolding runBytes readingBytes
+refusal-printed input output r n output′ e p = rw e p
 
--- refusal 8: nothing is written
-pub too-short : (input output : List ℕ) → length output < 32768 → RunOutcome input output 0 output
+-- output long enough, and too short
+pub run-outcome : (input output : List ℕ) (r : ℕ) (output′ : List ℕ) → outputBytes ≤ length output → Printed (runBytes input) output r output′ → RunOutcome input output r output′
 unfolding runLength runOutput outputVerdict
-too-short input output h = record { answered = rw (lt-ltb (length output) 32768 h) refl; written = rw (lt-ltb (length output) 32768 h) refl }
+run-outcome input output r output′ h p = record { answered = rw (le-ltb (length output) outputBytes h) (p .counted); written = rw (le-ltb (length output) outputBytes h) (p .holds) }
 
--- else what is printed is what the reading asks for
-printed-run : (input output : List ℕ) (r : ℕ) (output′ : List ℕ) (t : Reading) → 32768 ≤ length output → readTable input ≡ t → Printed (readingBytes t) output r output′ → RunOutcome input output r output′
-unfolding runLength runOutput outputVerdict runBytes
-printed-run input output r output′ t h e p =
-    record {
-      answered = p .counted ∙ rw (le-ltb (length output) 32768 h, e) refl;
-      written = p .holds ∙ rw (le-ltb (length output) 32768 h, e) refl;
-    }
+pub run-refused : (input output : List ℕ) → length output < outputBytes → RunOutcome input output 0 output
+unfolding runLength runOutput outputVerdict
+run-refused input output h = record { answered = rw (lt-ltb (length output) outputBytes h) refl; written = rw (lt-ltb (length output) outputBytes h) refl }
 
-pub plan-run : (input output : List ℕ) (r : ℕ) (output′ : List ℕ) (tb : Table) → 32768 ≤ length output → readTable input ≡ read tb → Printed (planBytes tb) output r output′ → RunOutcome input output r output′
-unfolding readingBytes
-plan-run input output r output′ tb h e p = printed-run input output r output′ (read tb) h e p
+-- the work cells have room for the jobs that were read
+pub work-roomy : (t : Reading) (input tops bottoms marks work parents′ tops′ bottoms′ marks′ tree : List ℕ) (n m : ℕ) → ArraysFor input tops bottoms marks work → length tops′ ≡ length tops → TableHeld t parents′ tops′ bottoms′ marks′ tree n m → Roomy (length (take m tops′)) work
+work-roomy t input tops bottoms marks work parents′ tops′ bottoms′ marks′ tree n m a same h =
+    rw (length-take-le m tops′ (h .holds .tops-hold)) (a .work-room m (omega (arith, h .holds .tops-hold)) (h .holds .few-jobs))
 
-pub refusal-run : (input output : List ℕ) (r : ℕ) (output′ : List ℕ) (number place : ℕ) → 32768 ≤ length output → readTable input ≡ stopped number place → Printed (refusalBytes number place) output r output′ → RunOutcome input output r output′
-unfolding readingBytes
-refusal-run input output r output′ number place h e p = printed-run input output r output′ (stopped number place) h e p
-
--- a part that long has its room
-pub part-room : (n : ℕ) (xs : List ℕ) → length (take n xs) ≡ n → n ≤ length xs
-part-room n xs e = omega (arith, length-take n xs)
-
--- buffers as they are made hold FFFF, and marks 0
-pub made-ready : BuffersReady (replicate 1024 FFFF) (replicate 4096 FFFF) (replicate 4096 FFFF) (replicate 4096 0)
-made-ready =
-    let unused : (n v : ℕ) → Unused v 0 (replicate n v) = λ n v. let all : n ≡ length (replicate n v) - 0 = omega (arith, length-replicate n v) in ap (λ (k : ℕ). replicate k v) all in
-    let long : (n v : ℕ) → n ≤ length (replicate n v) = λ n v. rw (length-replicate n v) (omega arith) in
-    record {
-      long = record { parents-long = long 1024 FFFF; tops-long = long 4096 FFFF; bottoms-long = long 4096 FFFF; marks-long = long 4096 0 };
-      clear = record { parents-clear = unused 1024 FFFF; tops-clear = unused 4096 FFFF; bottoms-clear = unused 4096 FFFF; marks-clear = unused 4096 0 };
-    }
-
--- what the reading answers tells which
-module _ (input parents tops bottoms marks depths firsts lasts : List ℕ) (r : TableRead) (o : LinesOutcome (readTable input) parents tops bottoms marks depths firsts lasts r) where
-  pub read-stopped : (g : Refusal) → r ≡ table-read.Refused g → readTable input ≡ stopped (g .number) (g .place)
-  read-stopped g e = subst (LinesOutcome (readTable input) parents tops bottoms marks depths firsts lasts) e o
-
-  pub read-whole : (c : Counts) → r ≡ table-read.Read c → TableHeld (readTable input) parents tops bottoms marks depths firsts lasts (c .layouts) (c .jobs)
-  read-whole c e = subst (LinesOutcome (readTable input) parents tops bottoms marks depths firsts lasts) e o
+pub plan-printed-as : (t : Reading) (input output : List ℕ) (r : ℕ) (output′ parents tops bottoms marks tree : List ℕ) (n m : ℕ) → t ≡ readTable input → TableHeld t parents tops bottoms marks tree n m → Printed (planBytes (held parents tops bottoms marks n m)) output r output′ → Printed (runBytes input) output r output′
+unfolding runBytes readingBytes
+plan-printed-as t input output r output′ parents tops bottoms marks tree n m e h p = rw (sym e ∙ h .whole) p

@@ -1,76 +1,155 @@
 // *Whole run* (document 01, "What each operation turns away"): from a table's bytes to the bytes of its plan.
 mod print;
-mod write;
 
 use model::JobNumber;
 use model::LayoutNumber;
+use model::Refusal;
 use model::TableRead;
+use settle::TREE;
 ghost use Prim.Native.Nat.{_≤_};
 ghost use lib.ListN.{length};
 ghost use Rattle.model.specs.Jobs.{tableOf};
-ghost use Rattle.model.specs.Output.{planBytes, refusalBytes};
+ghost use Rattle.model.specs.Output.{planBytes, refusalBytes, runBytes, outputBytes};
 ghost use Rattle.model.specs.Outcomes.{RunOutcome};
 ghost use Rattle.settle.specs.Spanned.{Spanned};
-ghost use Rattle.orders.specs.Accepted.{Accepted};
-ghost use Rattle.run.specs.Writing.{Printed};
+ghost use Rattle.jobs.specs.Accepted.{Accepted};
+ghost use Rattle.lines.specs.Writing.{Printed};
+ghost use Rattle.passes.specs.Making.{Roomy};
+ghost use Rattle.run.specs.Whole.{ArraysFor};
 
 // Bytes of output that the whole run needs.
 pub const OUTPUT: usize = 32768;
 
+// A table of few bytes is run in arrays for few jobs, so that little memory is touched: so many jobs have room there, in no fewer bytes than these.
+const FEW: usize = 128;
+
+const FEW_BYTES: usize = FEW * frame::LONG_LINE;
+
+const SOME: usize = 1024;
+
+const SOME_BYTES: usize = SOME * frame::LONG_LINE;
+
 // Prints a refusal.
-fn print_refusal(output: &mut [u8], number: u16, place: u16) -> usize
-    requires { ⌜ 32768 ≤ length (now output) ⌝ }
-    ensures { λ r. ⌜ Printed (refusalBytes number place) (now (output .entry)) r (now (output .exit)) ⌝ }
+fn print_refusal(output: &mut [u8], refusal: Refusal) -> usize
+    requires { ⌜ outputBytes ≤ length (now output) ⌝ }
+    ensures { λ r. ⌜ Printed (refusalBytes (refusal .number) (refusal .place)) (now (output .entry)) r (now (output .exit)) ⌝ }
 {
-    let length = write::put_refusal(output, 0, number, place);
-    write::clear_from(output, length);
+    let digits = lines::DIGITS;
+    let length = lines::put_refusal(&digits, output, 0, refusal);
+    lines::clear_from(output, length);
     length
 }
 
-// Plans a table that was read and settled, and prints the plan by the running order that planning leaves.
-fn plan_table(
+// Plans a table that was read and settled, and prints the plan.
+fn print_table(
     parents: &[u16],
+    tree: &[u16; TREE],
     tops: &[u16],
     bottoms: &[u16],
     marks: &[u8],
-    depths: &[u16],
-    firsts: &[u16],
-    lasts: &[u16],
+    work: &mut [u16],
     output: &mut [u8],
 ) -> usize
     requires { ⌜ Accepted (tableOf (now parents) (now tops) (now bottoms) (now marks)) ⌝ }
-    requires { ⌜ Spanned (now parents) (now depths) (now firsts) (now lasts) ⌝ }
-    requires { ⌜ 32768 ≤ length (now output) ⌝ }
+    requires { ⌜ Spanned (now parents) (now tree) ⌝ }
+    requires { ⌜ Roomy (length (now tops)) (now work) ⌝ }
+    requires { ⌜ outputBytes ≤ length (now output) ⌝ }
     ensures { λ r. ⌜ Printed (planBytes (tableOf (now (parents .entry)) (now (tops .entry)) (now (bottoms .entry)) (now (marks .entry)))) (now (output .entry)) r (now (output .exit)) ⌝ }
 {
-    let count = tops.len();
-    let mut partners = [0u16; JobNumber::LIMIT];
-    let mut layouts = [0u16; JobNumber::LIMIT];
-    let mut work = [0u16; orders::WORK];
-    let totals = sweep::work_out(
-        parents,
-        tops,
-        bottoms,
-        marks,
-        depths,
-        firsts,
-        lasts,
-        &mut partners[..count],
-        &mut layouts[..count],
-        &mut work,
-    );
-    print::print_plan(
-        parents,
-        tops,
-        bottoms,
-        marks,
-        &work,
-        &partners,
-        &layouts,
-        totals.pairs,
-        totals.singles,
-        totals.visits,
+    let totals = passes::make_passes(parents, tree, tops, bottoms, marks, work);
+    print::print_plan(parents, tree, bottoms, work, totals, output)
+}
+
+// The whole run in lent arrays that have room for the jobs of the input.
+fn run_in(
+    input: &[u8],
+    output: &mut [u8],
+    tops: &mut [u16],
+    bottoms: &mut [u16],
+    marks: &mut [u8],
+    work: &mut [u16],
+) -> usize
+    requires { ⌜ outputBytes ≤ length (now output) ⌝ }
+    requires { ⌜ ArraysFor (now input) (now tops) (now bottoms) (now marks) (now work) ⌝ }
+    ensures { λ r. ⌜ Printed (runBytes (now (input .entry))) (now (output .entry)) r (now (output .exit)) ⌝ }
+{
+    let mut parents = [model::ABSENT; LayoutNumber::LIMIT];
+    let mut tree = [0u16; TREE];
+    let reading = table::read_lines(input, &mut parents, tops, bottoms, marks, &mut tree);
+    match reading {
+        TableRead::Refused(r) => print_refusal(output, r),
+        TableRead::Read(c) => {
+            let layouts = c.layouts as usize;
+            let jobs = c.jobs as usize;
+            print_table(
+                &parents[..layouts],
+                &tree,
+                &tops[..jobs],
+                &bottoms[..jobs],
+                &marks[..jobs],
+                work,
+                output,
+            )
+        }
+    }
+}
+
+// The run in arrays for few jobs.
+fn run_few(input: &[u8], output: &mut [u8]) -> usize
+    requires { ⌜ outputBytes ≤ length (now output) ⌝ }
+    requires { ⌜ length (now input) ≤ 1408 ⌝ }
+    ensures { λ r. ⌜ Printed (runBytes (now (input .entry))) (now (output .entry)) r (now (output .exit)) ⌝ }
+{
+    let mut tops = [model::ABSENT; FEW];
+    let mut bottoms = [model::ABSENT; FEW];
+    let mut marks = [0u8; FEW];
+    let mut work = [0u16; 8 * FEW];
+    run_in(
+        input,
         output,
+        &mut tops,
+        &mut bottoms,
+        &mut marks,
+        &mut work,
+    )
+}
+
+// In arrays for some jobs.
+fn run_some(input: &[u8], output: &mut [u8]) -> usize
+    requires { ⌜ outputBytes ≤ length (now output) ⌝ }
+    requires { ⌜ length (now input) ≤ 11264 ⌝ }
+    ensures { λ r. ⌜ Printed (runBytes (now (input .entry))) (now (output .entry)) r (now (output .exit)) ⌝ }
+{
+    let mut tops = [model::ABSENT; SOME];
+    let mut bottoms = [model::ABSENT; SOME];
+    let mut marks = [0u8; SOME];
+    let mut work = [0u16; 8 * SOME];
+    run_in(
+        input,
+        output,
+        &mut tops,
+        &mut bottoms,
+        &mut marks,
+        &mut work,
+    )
+}
+
+// In arrays for the most jobs.
+fn run_many(input: &[u8], output: &mut [u8]) -> usize
+    requires { ⌜ outputBytes ≤ length (now output) ⌝ }
+    ensures { λ r. ⌜ Printed (runBytes (now (input .entry))) (now (output .entry)) r (now (output .exit)) ⌝ }
+{
+    let mut tops = [model::ABSENT; JobNumber::LIMIT];
+    let mut bottoms = [model::ABSENT; JobNumber::LIMIT];
+    let mut marks = [0u8; JobNumber::LIMIT];
+    let mut work = [0u16; schedule::WORK];
+    run_in(
+        input,
+        output,
+        &mut tops,
+        &mut bottoms,
+        &mut marks,
+        &mut work,
     )
 }
 
@@ -83,38 +162,11 @@ pub extern "C" fn murdzeki_plan(input: &[u8], output: &mut [u8]) -> usize
     if output.len() < OUTPUT {
         return 0;
     }
-    let mut parents = [model::ABSENT; LayoutNumber::LIMIT];
-    let mut tops = [model::ABSENT; JobNumber::LIMIT];
-    let mut bottoms = [model::ABSENT; JobNumber::LIMIT];
-    let mut marks = [0u8; JobNumber::LIMIT];
-    let mut depths = [0u16; LayoutNumber::LIMIT];
-    let mut firsts = [0u16; LayoutNumber::LIMIT];
-    let mut lasts = [0u16; LayoutNumber::LIMIT];
-    let reading = table::read_lines(
-        input,
-        &mut parents,
-        &mut tops,
-        &mut bottoms,
-        &mut marks,
-        &mut depths,
-        &mut firsts,
-        &mut lasts,
-    );
-    match reading {
-        TableRead::Refused(r) => print_refusal(output, r.number, r.place),
-        TableRead::Read(c) => {
-            let n = c.layouts as usize;
-            let m = c.jobs as usize;
-            plan_table(
-                &parents[..n],
-                &tops[..m],
-                &bottoms[..m],
-                &marks[..m],
-                &depths,
-                &firsts,
-                &lasts,
-                output,
-            )
-        }
+    if input.len() <= FEW_BYTES {
+        return run_few(input, output);
     }
+    if input.len() <= SOME_BYTES {
+        return run_some(input, output);
+    }
+    run_many(input, output)
 }

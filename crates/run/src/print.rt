@@ -1,61 +1,50 @@
 // A plan as lines: a line for each pass, by the running order, and the totals (document 01, "The plan").
-use crate::write;
-use model::JobNumber;
-use orders::ORDER;
-ghost use Rattle.model.specs.Jobs.{tableOf};
-ghost use Rattle.model.specs.Output.{planBytes};
-ghost use Rattle.run.specs.Writing.{Printed};
-ghost use Rattle.run.specs.Printing.{Placeable, LinePut};
-ghost use Rattle.run.specs.Whole.{PassesReady, PassesPut, PlanReady};
+use model::Totals;
+use passes::Pass;
+use settle::TREE;
+ghost use mathlib.Core.Path.{_≡_};
+ghost use Prim.Native.Nat.{_+_, _≤_};
+ghost use lib.ListN.{length};
+ghost use Rattle.model.specs.Jobs.{Table};
+ghost use Rattle.model.specs.Output.{planBytes, outputBytes};
+ghost use Rattle.lines.specs.Writing.{digitBytes, Printed};
+ghost use Rattle.passes.specs.PlanPass.{Plan, TotalsOf};
+ghost use Rattle.run.specs.Printing.{lineLength, LineAppended, PassesAppended};
 
-// The line of the job at a place, unless it was printed with an earlier one; `seen` holds the partners of jobs already printed in pairs.
-fn put_pass(
-    order: &[u16],
-    partners: &[u16],
-    layouts: &[u16],
-    seen: &mut [u16],
-    out: &mut [u8],
-    place: usize,
-    at: usize,
-) -> usize
-    requires { ⌜ Placeable (now order) (now partners) (now layouts) (now seen) (now out) place at ⌝ }
-    ensures { λ r. ⌜ LinePut (now (order .entry)) (now (partners .entry)) (now (layouts .entry)) (now (seen .entry)) (now (out .entry)) place at r (now (seen .exit)) (now (out .exit)) ⌝ }
+// The line of a pass.
+fn put_pass(digits: &[u8; 16], out: &mut [u8], at: usize, pass: Pass) -> usize
+    requires { ⌜ now digits ≡ digitBytes ⌝ }
+    requires { ⌜ at + lineLength «pass» ≤ length (now out) ⌝ }
+    ensures { λ r. ⌜ LineAppended «pass» at (now (out .entry)) r (now (out .exit)) ⌝ }
 {
-    let job = order[ORDER + place];
-    let j = job as usize;
-    if seen[j] != model::ABSENT {
-        return at;
+    match pass {
+        Pass::Pair(one, other, layout) => lines::put_pair(digits, out, at, one, other, layout),
+        Pass::Single(job) => lines::put_single(digits, out, at, job),
     }
-    let partner = partners[j];
-    if partner == model::ABSENT {
-        return write::put_single(out, at, job);
-    }
-    let k = partner as usize;
-    seen[j] = partner;
-    seen[k] = job;
-    write::put_pair(out, at, job, partner, layouts[j])
 }
 
 // The lines of all passes.
 fn put_passes(
+    digits: &[u8; 16],
     parents: &[u16],
-    tops: &[u16],
+    tree: &[u16; TREE],
     bottoms: &[u16],
-    marks: &[u8],
-    order: &[u16],
-    partners: &[u16],
-    layouts: &[u16],
+    work: &[u16],
+    count: usize,
     out: &mut [u8],
 ) -> usize
-    requires { ⌜ PassesReady (tableOf (now parents) (now tops) (now bottoms) (now marks)) (now order) (now partners) (now layouts) (now out) ⌝ }
-    ensures { λ r. ⌜ PassesPut (tableOf (now (parents .entry)) (now (tops .entry)) (now (bottoms .entry)) (now (marks .entry))) (now (out .entry)) r (now (out .exit)) ⌝ }
+    requires { ⌜ now digits ≡ digitBytes ⌝ }
+    requires { ⌜ ((tb : Table) × Plan tb (now parents) (now tree) (now bottoms) (now work) count) ⌝ }
+    requires { ⌜ outputBytes ≤ length (now out) ⌝ }
+    ensures { λ r. ⌜ ((tb : Table) → Plan tb (now (parents .entry)) (now (tree .entry)) (now (bottoms .entry)) (now (work .entry)) count → PassesAppended tb count (now (out .entry)) r (now (out .exit))) ⌝ }
 {
-    let mut seen = [model::ABSENT; JobNumber::LIMIT];
+    let jumps = ancestry::jump_pointers(parents, tree);
     let mut at = 0;
-    let mut place = 0;
-    while place < tops.len() {
-        at = put_pass(order, partners, layouts, &mut seen, out, place, at);
-        place += 1;
+    let mut k = 0;
+    while k < count {
+        let pass = passes::pass_at(parents, tree, &jumps, bottoms, work, k);
+        at = put_pass(digits, out, at, pass);
+        k += 1;
     }
     at
 }
@@ -63,22 +52,20 @@ fn put_passes(
 // The whole plan, with zeros after it.
 pub fn print_plan(
     parents: &[u16],
-    tops: &[u16],
+    tree: &[u16; TREE],
     bottoms: &[u16],
-    marks: &[u8],
-    order: &[u16],
-    partners: &[u16],
-    layouts: &[u16],
-    pairs: u16,
-    singles: u16,
-    visits: u32,
+    work: &[u16],
+    totals: Totals,
     out: &mut [u8],
 ) -> usize
-    requires { ⌜ PlanReady (tableOf (now parents) (now tops) (now bottoms) (now marks)) (now order) (now partners) (now layouts) pairs singles visits (now out) ⌝ }
-    ensures { λ r. ⌜ Printed (planBytes (tableOf (now (parents .entry)) (now (tops .entry)) (now (bottoms .entry)) (now (marks .entry)))) (now (out .entry)) r (now (out .exit)) ⌝ }
+    requires { ⌜ ((tb : Table) × Plan tb (now parents) (now tree) (now bottoms) (now work) (totals .pairs + totals .singles) × TotalsOf tb totals) ⌝ }
+    requires { ⌜ outputBytes ≤ length (now out) ⌝ }
+    ensures { λ r. ⌜ ((tb : Table) → Plan tb (now (parents .entry)) (now (tree .entry)) (now (bottoms .entry)) (now (work .entry)) (totals .pairs + totals .singles) → TotalsOf tb totals → Printed (planBytes tb) (now (out .entry)) r (now (out .exit))) ⌝ }
 {
-    let end = put_passes(parents, tops, bottoms, marks, order, partners, layouts, out);
-    let length = write::put_totals(out, end, pairs, singles, visits);
-    write::clear_from(out, length);
+    let digits = lines::DIGITS;
+    let count = totals.pairs as usize + totals.singles as usize;
+    let end = put_passes(&digits, parents, tree, bottoms, work, count, out);
+    let length = lines::put_totals(&digits, out, end, totals);
+    lines::clear_from(out, length);
     length
 }

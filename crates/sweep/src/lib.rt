@@ -8,9 +8,9 @@ use segment_tree::Found;
 use segment_tree::Shape;
 ghost use mathlib.Core.Path.{_≡_};
 ghost use Prim.Native.Nat.{ℕ, _+_, _*_, _<_};
-ghost use lib.ListN.{length, getD};
-ghost use Rattle.schedule.specs.Schedule.{Schedule, dueAt};
-ghost use Rattle.schedule.specs.InWork.{slotPart, duePart, Swept};
+ghost use lib.ListN.{getD};
+ghost use Rattle.schedule.specs.Schedule.{Schedule};
+ghost use Rattle.schedule.specs.InWork.{slotPart, Swept};
 ghost use Rattle.sweep_laws.specs.SegmentTree.{entriesIn, insertEntry, removeEntry};
 ghost use Rattle.sweep_laws.specs.WorkCells.{treeIn, TreeChanged};
 ghost use Rattle.sweep_laws.specs.Sweeping.{Sweepable, Sweeping, PlaceInsertable, PlaceRemovable, Pairable, paired, Asking, Chosen, Underway, ReachedAt, SteppedFrom};
@@ -30,35 +30,35 @@ struct Progress {
 }
 
 // A place comes to wait in the tree.
-fn insert_place(work: &mut [u16], count: usize, width: usize, place: Rank)
-    requires { ⌜ PlaceInsertable count width (place .0) (now work) ⌝ }
-    ensures { λ r. ⌜ TreeChanged count width (insertEntry (getD (now (work .entry)) (slotPart * count + place .0) 0) (place .0) (entriesIn width (treeIn count (now (work .entry))))) (now (work .entry)) (now (work .exit)) ⌝ }
+fn insert_place(work: &mut [u16], count: usize, shape: Shape, place: Rank)
+    requires { ⌜ PlaceInsertable count (shape .kept) (shape .width) (place .0) (now work) ⌝ }
+    ensures { λ r. ⌜ TreeChanged count (shape .kept) (shape .width) (insertEntry (getD (now (work .entry)) (slotPart * count + place .0) 0) (place .0) (entriesIn (shape .width) (treeIn count (now (work .entry))))) (now (work .entry)) (now (work .exit)) ⌝ }
 {
     let slot = schedule::slot_at(work, count, place);
     let start = TREE * count;
-    segment_tree::insert(&mut work[start..], width, slot, place);
+    segment_tree::insert(&mut work[start..], shape, slot, place);
 }
 
 // A place waits no longer.
-fn remove_place(work: &mut [u16], count: usize, width: usize, place: Rank)
-    requires { ⌜ PlaceRemovable count width (place .0) (now work) ⌝ }
-    ensures { λ r. ⌜ TreeChanged count width (removeEntry (getD (now (work .entry)) (slotPart * count + place .0) 0) (entriesIn width (treeIn count (now (work .entry))))) (now (work .entry)) (now (work .exit)) ⌝ }
+fn remove_place(work: &mut [u16], count: usize, shape: Shape, place: Rank)
+    requires { ⌜ PlaceRemovable count (shape .kept) (shape .width) (place .0) (now work) ⌝ }
+    ensures { λ r. ⌜ TreeChanged count (shape .kept) (shape .width) (removeEntry (getD (now (work .entry)) (slotPart * count + place .0) 0) (entriesIn (shape .width) (treeIn count (now (work .entry))))) (now (work .entry)) (now (work .exit)) ⌝ }
 {
     let slot = schedule::slot_at(work, count, place);
     let start = TREE * count;
-    segment_tree::remove(&mut work[start..], width, slot);
+    segment_tree::remove(&mut work[start..], shape, slot);
 }
 
 // Inserts what is reached at the turn of a place, `next` being reached before, and answers how many are reached then.
-fn insert_reached(work: &mut [u16], count: usize, width: usize, place: Rank, next: usize) -> usize
-    requires { ⌜ ((s : Schedule) × (place .0 < count) × Sweeping s count width (place .0) next (now work)) ⌝ }
-    ensures { λ r. ⌜ ReachedAt count width (place .0) next (now (work .entry)) r (now (work .exit)) ⌝ }
+fn insert_reached(work: &mut [u16], count: usize, shape: Shape, place: Rank, next: usize) -> usize
+    requires { ⌜ ((s : Schedule) × (place .0 < count) × Sweeping s count (shape .kept) (shape .width) (place .0) next (now work)) ⌝ }
+    ensures { λ r. ⌜ ReachedAt count (shape .kept) (shape .width) (place .0) next (now (work .entry)) r (now (work .exit)) ⌝ }
 {
     let due = schedule::due_at(work, count, place);
     let mut at = next;
     while at < due {
         let reached = schedule::reached_at(work, count, at);
-        insert_place(work, count, width, reached);
+        insert_place(work, count, shape, reached);
         at += 1;
     }
     due
@@ -76,11 +76,10 @@ fn set_pair(work: &mut [u16], count: usize, place: Rank, mate: Rank)
 
 // The turn of a place that asks for a span that ends at `to`: it waits no longer, and neither does the mate that it finds.
 fn match_place(work: &mut [u16], count: usize, shape: Shape, place: Rank, to: usize) -> Found
-    requires { ⌜ ((s : Schedule) × (next : ℕ) × Asking s count (shape .levels) (shape .width) (place .0) next to (now work)) ⌝ }
-    ensures { λ r. ⌜ ((s : Schedule) (next : ℕ) → Asking s count (shape .levels) (shape .width) (place .0) next to (now (work .entry)) → Chosen s count (shape .width) (place .0) next (now (work .entry)) (r .place .0) (r .visits) (now (work .exit))) ⌝ }
+    requires { ⌜ ((s : Schedule) × (next : ℕ) × Asking s count (shape .levels) (shape .kept) (shape .width) (place .0) next to (now work)) ⌝ }
+    ensures { λ r. ⌜ ((s : Schedule) (next : ℕ) → Asking s count (shape .levels) (shape .kept) (shape .width) (place .0) next to (now (work .entry)) → Chosen s count (shape .kept) (shape .width) (place .0) next (now (work .entry)) (r .place .0) (r .visits) (now (work .exit))) ⌝ }
 {
-    let width = shape.width;
-    remove_place(work, count, width, place);
+    remove_place(work, count, shape, place);
     let from = schedule::from_at(work, count, place);
     let start = TREE * count;
     let found = segment_tree::range_minimum(&work[start..], shape, from, to);
@@ -89,20 +88,20 @@ fn match_place(work: &mut [u16], count: usize, shape: Shape, place: Rank, to: us
         schedule::set_mate(work, count, place, mate);
         return found;
     }
-    remove_place(work, count, width, mate);
+    remove_place(work, count, shape, mate);
     set_pair(work, count, place, mate);
     found
 }
 
 // The turn of a place: what is due is reached, and the place, unless it is taken, opens a pass, with the mate that it finds or alone.
 fn step(work: &mut [u16], count: usize, shape: Shape, place: Rank, progress: Progress) -> Progress
-    requires { ⌜ ((s : Schedule) × (place .0 < count) × Underway s count (shape .levels) (shape .width) (place .0) (progress .next) (progress .passes) (progress .pairs) (progress .visits) (now work)) ⌝ }
-    ensures { λ r. ⌜ SteppedFrom count (shape .levels) (shape .width) (place .0) (progress .next) (progress .passes) (progress .pairs) (progress .visits) (now (work .entry)) (r .next) (r .passes) (r .pairs) (r .visits) (now (work .exit)) ⌝ }
+    requires { ⌜ ((s : Schedule) × (place .0 < count) × Underway s count (shape .levels) (shape .kept) (shape .width) (place .0) (progress .next) (progress .passes) (progress .pairs) (progress .visits) (now work)) ⌝ }
+    ensures { λ r. ⌜ SteppedFrom count (shape .levels) (shape .kept) (shape .width) (place .0) (progress .next) (progress .passes) (progress .pairs) (progress .visits) (now (work .entry)) (r .next) (r .passes) (r .pairs) (r .visits) (now (work .exit)) ⌝ }
 {
     let passes = progress.passes;
     let pairs = progress.pairs;
     let visits = progress.visits;
-    let next = insert_reached(work, count, shape.width, place, progress.next);
+    let next = insert_reached(work, count, shape, place, progress.next);
     let to = schedule::to_at(work, count, place);
     if 0 < to {
         let found = match_place(work, count, shape, place, to);
@@ -147,7 +146,7 @@ pub fn sweep(work: &mut [u16], count: usize) -> Matched
 {
     let shape = segment_tree::shape_for(count);
     let start = TREE * count;
-    segment_tree::clear(&mut work[start..], shape.width);
+    segment_tree::clear(&mut work[start..], shape);
     let mut progress = Progress {
         next: 0,
         passes: 0,

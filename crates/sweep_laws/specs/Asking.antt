@@ -1,25 +1,24 @@
 -- The turn of a place that asks: it leaves the segment tree, and so does the mate that it finds; the sweep is then at the next place.
 use Prim.Native.Nat.{ℕ, suc, _+_, _-_, _*_, _<_, _≤_, _^_}
 use mathlib.Core.Path.{_≡_, refl, sym, ap, _∙_}
-use mathlib.Core.Logic.{_⊎_, inl, inr, ⊎-elim, _≢_}
-use mathlib.Core.Bool.{Bool, true, false, true≢false, not, _&&_, _||_}
+use mathlib.Core.Logic.{_≢_}
+use mathlib.Core.Bool.{Bool, true, false, true≢false, not, _&&_}
 use mathlib.Core.List.{List, List·Memᴰ as Mem}
 use native.Mathlib.Omega.{arith}
 use native.Mathlib.Decide.{ℕ-discrete}
 use lib.ListN.{length, getD, set, take, length-set}
 use lib.Seq.{getD-set-same, getD-set-other}
-use lib.Dec.{eqb, ltb}
+use lib.Dec.{eqb}
 use borrow.Author.Tests.{eq-eqb, ne-eqb, eqb-false, lt-ltb}
 use Rattle.model.specs.Tree.{FFFF}
 use Rattle.model.specs.Jobs.{jobLimit}
-use Rattle.model.specs.Visits.{levels, visits}
-use Rattle.schedule.specs.Schedule.{Schedule, places, slotAt, fromAt, toAt, dueAt, visitsAt}
+use Rattle.schedule.specs.Schedule.{Schedule, slotAt, fromAt, toAt, visitsAt}
 use Rattle.schedule.specs.InWork.{slotPart, fromPart, toPart, reachedPart, duePart, matePart, treePart}
 use Rattle.sweep_laws.specs.SegmentTree.{entriesIn, removeEntry, smallest, Searchable, Minimum}
 use Rattle.sweep_laws.specs.VisitBound.{visits-bound}
 use Rattle.sweep_laws.specs.Levels.{levels-least}
-use Rattle.sweep_laws.specs.WorkCells.{FrontKept, front-both, front-refl, front-set-both, mid-tail, treeIn, TreeChanged, tree-set}
-use Rattle.sweep_laws.specs.Sweeping.{freeAt, Waiting, Open, Setting, Cells, Sweeping, Asking, paired, Mate, NoMate, Chosen, PlaceRemovable, Pairable}
+use Rattle.sweep_laws.specs.WorkCells.{FrontKept, front-both, front-set-both, mid-tail, treeIn, TreeChanged, tree-set}
+use Rattle.sweep_laws.specs.Sweeping.{freeAt, Waiting, Open, Setting, Cells, Sweeping, Asking, paired, Chosen, PlaceRemovable, Pairable}
 use Rattle.sweep_laws.specs.WaitingLaws.{waiting-as, waiting-remove}
 use Rattle.sweep_laws.specs.Reaching.{free-kept, cells-kept}
 use Rattle.sweep_laws.specs.Choice.{First, none-chosen, one-chosen}
@@ -104,8 +103,8 @@ module _ (s : Schedule) (n width i q : ℕ) (work : List ℕ) (known : i < n) (i
 -- ---- the turn
 
 -- the slot of any place can be emptied
-pub place-removable : (s : Schedule) (n width i next : ℕ) (work nodes : List ℕ) (waits : ℕ → Type 0) (p : ℕ) → p < n → Setting s n width → Cells s n width i work → Waiting s n width waits (treeIn n work) → PlaceRemovable n width p work
-place-removable s n width i next work nodes waits p h t c v =
+place-removable : (s : Schedule) (n kept width i : ℕ) (work : List ℕ) (waits : ℕ → Type 0) (p : ℕ) → p < n → Setting s n kept width → Cells s n width i work → Waiting s n kept width waits (treeIn n work) → PlaceRemovable n kept width p work
+place-removable s n kept width i work waits p h t c v =
     record {
       inside = h;
       room = omega (arith, c .room);
@@ -113,8 +112,8 @@ place-removable s n width i next work nodes waits p h t c v =
       slot-inside = rw (c .slot-cell p h, t .width-is, ← (t .places-are)) (t .sound .slot-inside p (rw (t .places-are) h));
     }
 
-module _ (s : Schedule) (n level width i next to : ℕ) (work : List ℕ) (a : Asking s n level width i next to work) where
-  abbrev w : Sweeping s n width i next work
+module _ (s : Schedule) (n level kept width i next to : ℕ) (work : List ℕ) (a : Asking s n level kept width i next to work) where
+  abbrev w : Sweeping s n kept width i next work
   w = a .sweeping
 
   few : n ≤ jobLimit
@@ -132,11 +131,11 @@ module _ (s : Schedule) (n level width i next to : ℕ) (work : List ℕ) (a : A
   to-at : to ≡ toAt s i
   to-at = a .to-is ∙ w .cells .to-cell i (omega arith) (a .inside) free-here
 
-  pub asking-removable : PlaceRemovable n width i work
-  asking-removable = place-removable s n width i next work work (Open s n i next work) i (a .inside) (w .setting) (w .cells) (w .waiting)
+  pub asking-removable : PlaceRemovable n kept width i work
+  asking-removable = place-removable s n kept width i work (Open s n i next work) i (a .inside) (w .setting) (w .cells) (w .waiting)
 
   -- the sweep has come past place i
-  past : (new : List ℕ) → Cells s n width (suc i) new → ((q : ℕ) → suc i ≤ q → q < n → freeAt n new q ≡ false → Mem q (take next (s .reached))) → Waiting s n width (Open s n (suc i) next new) (treeIn n new) → Sweeping s n width (suc i) next new
+  past : (new : List ℕ) → Cells s n width (suc i) new → ((q : ℕ) → suc i ≤ q → q < n → freeAt n new q ≡ false → Mem q (take next (s .reached))) → Waiting s n kept width (Open s n (suc i) next new) (treeIn n new) → Sweeping s n kept width (suc i) next new
   past new c taken v =
       record {
         setting = w .setting;
@@ -152,19 +151,19 @@ module _ (s : Schedule) (n level width i next to : ℕ) (work : List ℕ) (a : A
       }
 
   -- place i has left the tree
-  module _ (work₁ : List ℕ) (c : TreeChanged n width (removeEntry (getD work (slotPart * n + i) 0) (entriesIn width (treeIn n work))) work work₁) where
-    left : Waiting s n width (Open s n (suc i) next work) (treeIn n work₁)
+  module _ (work₁ : List ℕ) (c : TreeChanged n kept width (removeEntry (getD work (slotPart * n + i) 0) (entriesIn width (treeIn n work))) work work₁) where
+    left : Waiting s n kept width (Open s n (suc i) next work) (treeIn n work₁)
     left =
-        let c′ : TreeChanged n width (removeEntry (slotAt s i) (entriesIn width (treeIn n work))) work work₁ = rw (w .cells .slot-cell i (a .inside)) at c in
-        waiting-as s n width (w .setting) (λ (p : ℕ). Open s n i next work p × (p ≢ i)) (Open s n (suc i) next work) (treeIn n work₁)
+        let c′ : TreeChanged n kept width (removeEntry (slotAt s i) (entriesIn width (treeIn n work))) work work₁ = rw (w .cells .slot-cell i (a .inside)) at c in
+        waiting-as s n kept width (w .setting) (λ (p : ℕ). Open s n i next work p × (p ≢ i)) (Open s n (suc i) next work) (treeIn n work₁)
         (λ p h o. let other : p ≢ i = o .1 in (omega (arith, o .0 .0), o .0 .1, o .0 .2))
         (λ p h o. ((omega (arith, o .0), o .1, o .2), λ e. omega (arith, o .0)))
-        (waiting-remove s n width (w .setting) (Open s n i next work) work work₁ i (a .inside) (w .waiting) c′)
+        (waiting-remove s n kept width (w .setting) (Open s n i next work) work work₁ i (a .inside) (w .waiting) c′)
 
     pub asking-room : treePart * n ≤ length work₁
     asking-room = rw (c .front .same) room
 
-    pub asking-searchable : Searchable level width (take (length work₁ - treePart * n) (treeIn n work₁)) to
+    pub asking-searchable : Searchable level kept width (take (length work₁ - treePart * n) (treeIn n work₁)) to
     asking-searchable =
         record {
           tree = rw (mid-tail (treePart * n) work₁) (c .tree);
@@ -187,7 +186,7 @@ module _ (s : Schedule) (n level width i next to : ℕ) (work : List ℕ) (a : A
       v-few = omega (arith, m .visits-are, visits-bound level from to, a .levels-are, levels-least n 12 (omega (arith, few)))
 
       -- none is found
-      pub asked-alone : q ≡ FFFF → Chosen s n width i next work q v (set work₁ (matePart * n + i) q)
+      pub asked-alone : q ≡ FFFF → Chosen s n kept width i next work q v (set work₁ (matePart * n + i) q)
       asked-alone e =
           let new : List ℕ = set work₁ (matePart * n + i) q in
           let front : FrontKept (treePart * n) (set work (matePart * n + i) q) new = front-set-both (treePart * n) work work₁ (matePart * n + i) q (omega (arith, room, a .inside)) (c .front) in
@@ -197,20 +196,20 @@ module _ (s : Schedule) (n level width i next to : ℕ) (work : List ℕ) (a : A
                 (cells-kept n (set work (matePart * n + i) q) new front s width (suc i) few-reached (cells-alone s n width i work q (a .inside) few-reached (w .cells)))
                 (λ p l h f. w .taken-reached p (omega arith) h (sym (free p l h) ∙ f))
                 (rw (tree-set n work₁ (matePart * n + i) q (omega (arith, a .inside)))
-                (waiting-as s n width (w .setting) (Open s n (suc i) next work) (Open s n (suc i) next new) (treeIn n work₁)
+                (waiting-as s n kept width (w .setting) (Open s n (suc i) next work) (Open s n (suc i) next new) (treeIn n work₁)
                 (λ p h o. (o .0, free p (o .0) h ∙ o .1, o .2))
                 (λ p h o. (o .0, sym (free p (o .0) h) ∙ o .1, o .2))
                 left));
             visits-are = v-is;
             few-visits = v-few;
-            none-found = λ _. record { unfound = none-chosen s n width i next work (treeIn n work₁) (omega (arith, few)) (rw (← to-at) (a .asks)) (a .next-is) left (sym q-is ∙ e); front = rw (← e) front };
+            none-found = λ _. record { unfound = none-chosen s n kept width i next work (treeIn n work₁) (omega (arith, few)) (rw (← to-at) (a .asks)) (a .next-is) left (sym q-is ∙ e); front = rw (← e) front };
             one-found = λ other. absurd (other e);
           }
 
       -- one is found
       module _ (other : q ≡ FFFF → ⊥) where
-        first : First s n width i next work (treeIn n work₁) (omega (arith, few)) (rw (← to-at) (a .asks)) (a .next-is) left
-        first = one-chosen s n width i next work (treeIn n work₁) (omega (arith, few)) (rw (← to-at) (a .asks)) (a .next-is) left (λ e. other (q-is ∙ e))
+        first : First s n kept width i next work (treeIn n work₁) (omega (arith, few)) (rw (← to-at) (a .asks)) (a .next-is) left
+        first = one-chosen s n kept width i next work (treeIn n work₁) (omega (arith, few)) (rw (← to-at) (a .asks)) (a .next-is) left (λ e. other (q-is ∙ e))
 
         mate-inside : q < n
         mate-inside = rw q-is (first .inside)
@@ -224,20 +223,20 @@ module _ (s : Schedule) (n level width i next to : ℕ) (work : List ℕ) (a : A
         mate-reached : Mem q (take next (s .reached))
         mate-reached = rw q-is (first .reached)
 
-        pub mate-removable : PlaceRemovable n width q work₁
-        mate-removable = place-removable s n width i next work₁ work₁ (Open s n (suc i) next work) q mate-inside (w .setting) (cells-kept n work work₁ (c .front) s width i few-reached (w .cells)) left
+        pub mate-removable : PlaceRemovable n kept width q work₁
+        mate-removable = place-removable s n kept width i work₁ (Open s n (suc i) next work) q mate-inside (w .setting) (cells-kept n work work₁ (c .front) s width i few-reached (w .cells)) left
 
         -- it has left the tree
-        module _ (work₂ : List ℕ) (d : TreeChanged n width (removeEntry (getD work₁ (slotPart * n + q) 0) (entriesIn width (treeIn n work₁))) work₁ work₂) where
-          both-left : Waiting s n width (λ (p : ℕ). Open s n (suc i) next work p × (p ≢ q)) (treeIn n work₂)
+        module _ (work₂ : List ℕ) (d : TreeChanged n kept width (removeEntry (getD work₁ (slotPart * n + q) 0) (entriesIn width (treeIn n work₁))) work₁ work₂) where
+          both-left : Waiting s n kept width (λ (p : ℕ). Open s n (suc i) next work p × (p ≢ q)) (treeIn n work₂)
           both-left =
               let at : getD work₁ (slotPart * n + q) 0 ≡ slotAt s q = c .front .kept (slotPart * n + q) (omega (arith, mate-inside)) ∙ w .cells .slot-cell q mate-inside in
-              waiting-remove s n width (w .setting) (Open s n (suc i) next work) work₁ work₂ q mate-inside left (rw at at d)
+              waiting-remove s n kept width (w .setting) (Open s n (suc i) next work) work₁ work₂ q mate-inside left (rw at at d)
 
           pub mate-pairable : Pairable n i q work₂
           mate-pairable = record { one-inside = a .inside; other-inside = mate-inside; room = rw (d .front .same, c .front .same) room }
 
-          pub asked-pair : Chosen s n width i next work q v (paired n i q work₂)
+          pub asked-pair : Chosen s n kept width i next work q v (paired n i q work₂)
           asked-pair =
               let new : List ℕ = paired n i q work₂ in
               let known = a .inside in
@@ -257,7 +256,7 @@ module _ (s : Schedule) (n level width i next to : ℕ) (work : List ℕ) (a : A
                       | no else ↦ w .taken-reached p (omega arith) h (sym (free p l h ∙ rw (ne-eqb p q else) refl) ∙ f)
                     ])
                     (rw (tree-set n (set (set work₂ (matePart * n + i) q) (matePart * n + q) i) (toPart * n + q) 0 (omega arith), tree-set n (set work₂ (matePart * n + i) q) (matePart * n + q) i (omega arith), tree-set n work₂ (matePart * n + i) q (omega arith))
-                    (waiting-as s n width (w .setting) (λ (p : ℕ). Open s n (suc i) next work p × (p ≢ q)) (Open s n (suc i) next new) (treeIn n work₂)
+                    (waiting-as s n kept width (w .setting) (λ (p : ℕ). Open s n (suc i) next work p × (p ≢ q)) (Open s n (suc i) next new) (treeIn n work₂)
                     (λ p h o. (o .0 .0, free p (o .0 .0) h ∙ rw (ne-eqb p q (o .1), o .0 .1) refl, o .0 .2))
                     (λ p h o. let k = not-and (eqb p q) (freeAt n work p) (sym (free p (o .0) h) ∙ o .1) in ((o .0, k .1, o .2), eqb-false p q (k .0)))
                     both-left));

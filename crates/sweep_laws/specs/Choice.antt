@@ -1,9 +1,9 @@
 -- The search's answer is the greedy rule's choice (000, Algorithm 2 equals Algorithm 1): the smallest place that waits in the span that a place asks for is
 -- the first free later place that fits.
-use Prim.Native.Nat.{ℕ, suc, _+_, _-_, _*_, _<_, _≤_}
+use Prim.Native.Nat.{ℕ, suc, _-_, _<_, _≤_}
 use mathlib.Core.Path.{_≡_, refl, sym, ap, _∙_}
-use mathlib.Core.Logic.{_⊎_, ⊎-elim}
-use mathlib.Core.Bool.{Bool, true, false, true≢false, _&&_}
+use mathlib.Core.Logic.{⊎-elim}
+use mathlib.Core.Bool.{true, true≢false, _&&_}
 use mathlib.Core.Option.{none, some}
 use mathlib.Core.List.{List, List·Memᴰ as Mem}
 use native.Mathlib.Omega.{arith}
@@ -15,7 +15,7 @@ use Rattle.model.specs.Tree.{FFFF}
 use Rattle.tree_laws.specs.Lists.{select-mem, mem-select, select-pairwise, range-mem, mem-range, range-rises, elem-mem, mem-elem}
 use Rattle.matching.specs.Lists.{found-or-none, find-some, find-none, find-first, and-both}
 use Rattle.schedule.specs.Schedule.{Schedule, slotAt, fromAt, toAt, dueAt, fits}
-use Rattle.sweep_laws.specs.SegmentTree.{Entry, entriesIn, smallest}
+use Rattle.sweep_laws.specs.SegmentTree.{entriesIn, smallest}
 use Rattle.sweep_laws.specs.EntryLaws.{smallest-le, smallest-entry}
 use Rattle.sweep_laws.specs.Sweeping.{freeAt, remaining, Waiting, Open}
 
@@ -35,7 +35,7 @@ remaining-rises : (n : ℕ) (work : List ℕ) (j : ℕ) → AllPairs _<_ (remain
 unfolding remaining
 remaining-rises n work j = select-pairwise (freeAt n work) _<_ (numbersFrom j (n - j)) (range-rises j (n - j))
 
-module _ (s : Schedule) (n width i next : ℕ) (work nodes : List ℕ) (few : n ≤ FFFF) (asks : 0 < toAt s i) (next-is : next ≡ dueAt s i) (w : Waiting s n width (Open s n (suc i) next work) nodes) where
+module _ (s : Schedule) (n kept width i next : ℕ) (work nodes : List ℕ) (few : n ≤ FFFF) (asks : 0 < toAt s i) (next-is : next ≡ dueAt s i) (w : Waiting s n kept width (Open s n (suc i) next work) nodes) where
   -- q is reached, and its slot lies in the span
   record Fitting (q : ℕ) : Type 0 where
     reached : Mem q (take next (s .reached))

@@ -3,7 +3,7 @@
 use Prim.Native.Nat.{ℕ, zero, suc, _+_, _*_, _<_, _≤_, min}
 use mathlib.Core.Path.{_≡_, refl, sym, ap, _∙_}
 use mathlib.Core.Logic.{_⊎_, inl, inr, ⊎-elim, _≢_}
-use mathlib.Core.Bool.{Bool, true, false, not, and-false}
+use mathlib.Core.Bool.{true, false, not, and-false}
 use mathlib.Core.List.{List, [], _∷_, List·Memᴰ as Mem, List·Memᴰ·head as here, List·Memᴰ·tail as there, List·Memᴰ·not-nil as not-nil, List·Memᴰ·cases-cons as mem-cons}
 use native.Mathlib.Omega.{arith}
 use native.Mathlib.Decide.{ℕ-discrete, decLe, decLt}
@@ -94,10 +94,6 @@ smallest-none es from to none = elim (ℕ-discrete (smallest es from to) FFFF) [
 pub smallest-empty : (es : List Entry) (from to : ℕ) → to ≤ from → smallest es from to ≡ FFFF
 smallest-empty es from to h = smallest-none es from to (λ e m a b. omega arith)
 
--- and FFFF says that no entry lies in the span, all places being smaller than FFFF
-pub none-smallest : (es : List Entry) (from to : ℕ) → ((e : Entry) → Mem e es → e .place < FFFF) → smallest es from to ≡ FFFF → (e : Entry) → Mem e es → from ≤ e .slot → e .slot < to → ⊥
-none-smallest es from to small same e m a b = omega (arith, smallest-le from to m a b, small e m)
-
 -- ---- by the slots
 
 -- what stands in a slot, if it is a place, is an entry
@@ -160,13 +156,6 @@ entry-slot ps e m =
     let i = entry-slot-from 0 ps e m in
     let same : e .slot ≡ i .index = omega (arith, i .at) in
     rw same (i .stands)
-
--- places that fit a cell are smaller than FFFF in the list of entries
-pub entry-small : (ps : List ℕ) → ((s : ℕ) → s < length ps → getD ps s FFFF ≤ FFFF) → (e : Entry) → Mem e (entries ps) → e .place < FFFF
-entry-small ps fits e m =
-    let i = entry-slot ps e m in
-    let other : e .place ≡ FFFF → ⊥ = i .some in
-    omega (arith, i .holds, fits (e .slot) (i .within))
 
 no-entries-from : (s n : ℕ) → entriesFrom s (replicate n FFFF) ≡ []
 unfolding entriesFrom

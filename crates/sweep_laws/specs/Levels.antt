@@ -5,7 +5,7 @@ use native.Mathlib.Nat.{pow-suc, sub-zero}
 use native.Mathlib.Numerals.{add-one}
 use native.Mathlib.Omega.{arith}
 use native.Mathlib.Decide.{decLe, decLt, ℕ-discrete}
-use lib.Pow.{pow-mono}
+use lib.Pow.{pow-mono, pow-pos}
 use borrow.Author.Tests.{le-leb, lt-leb}
 use Rattle.model.specs.Visits.{levels, levelsFrom}
 
@@ -60,9 +60,11 @@ levels-fit k width n power room fits = elim (decLt k 63) [
 ]
 
 -- the shape of a tree for m places
-pub record ShapeFor (m level width : ℕ) : Type 0 where
+pub record ShapeFor (m level kept width : ℕ) : Type 0 where
   pub levels-are : level ≡ levels m
   pub width-is : width ≡ 2 ^ level
+  pub kept-some : 1 ≤ kept
+  pub kept-within : kept ≤ width
 
 -- ---- the search for them, level by level
 
@@ -88,5 +90,28 @@ module _ (m level width : ℕ) (l : LevelsTo m level width) where
         rest = l .rest ∙ rw (fuel, levels-go (m - suc level) level m (rw (← (l .width-is)) h), add-one) refl;
       }
 
-  pub levels-found : m ≤ width → ShapeFor m level width
-  levels-found h = record { levels-are = sym (l .rest ∙ levels-stop (m - level) level m (rw (← (l .width-is)) h)); width-is = l .width-is }
+  pub levels-found : m ≤ width → level ≡ levels m
+  levels-found h = sym (l .rest ∙ levels-stop (m - level) level m (rw (← (l .width-is)) h))
+
+-- ---- the nodes that are kept: about half of the levels
+
+pub record KeptTo (levels level kept : ℕ) : Type 0 where
+  pub within : level ≤ levels
+  pub kept-is : kept ≡ 2 ^ level
+
+pub kept-begin : (levels : ℕ) → KeptTo levels 0 1
+kept-begin levels = record { within = omega arith; kept-is = refl }
+
+pub kept-step : (levels level kept : ℕ) → level < levels → KeptTo levels level kept → KeptTo levels (level + 1) (kept * 2)
+kept-step levels level kept h k =
+    record { within = omega arith; kept-is = rw (add-one, pow-suc 2 level) (ap (λ (w : ℕ). w * 2) (k .kept-is)) }
+
+pub kept-some : (levels level kept : ℕ) → KeptTo levels level kept → 1 ≤ kept
+kept-some levels level kept k = rw (k .kept-is) (pow-pos level)
+
+pub kept-within : (levels level kept : ℕ) → KeptTo levels level kept → kept ≤ 2 ^ levels
+kept-within levels level kept k = rw (k .kept-is) (pow-mono {i = level} {j = levels} (k .within))
+
+-- with few levels it is a small number
+pub kept-small : (levels level kept : ℕ) → levels ≤ 12 → KeptTo levels level kept → kept ≤ 2 ^ 12
+kept-small levels level kept few k = omega (arith, kept-within levels level kept k, pow-mono {i = levels} {j = 12} few)

@@ -1,21 +1,20 @@
 -- One turn of the sweep makes one step of the greedy rule: the place is taken already, runs alone, or takes a mate.
 use Prim.Native.Nat.{ℕ, zero, suc, _+_, _-_, _*_, _<_, _≤_}
 use mathlib.Core.Path.{_≡_, refl, sym, ap, _∙_}
-use mathlib.Core.Logic.{_⊎_, ⊎-elim, _≢_}
 use mathlib.Core.Bool.{Bool, true, false, not, _&&_}
-use mathlib.Core.Option.{none, some}
+use mathlib.Core.Option.{none}
 use mathlib.Core.List.{List, [], _∷_, _++_, map, append-assoc, append-nil, List·Memᴰ as Mem, List·Memᴰ·head as here, List·Memᴰ·tail as there}
 use native.Mathlib.Omega.{arith}
 use native.Mathlib.Decide.{ℕ-discrete}
 use native.Mathlib.Nat.{add-zero, zero-add}
 use native.Mathlib.Numerals.{add-one}
-use lib.ListN.{length, getD}
+use lib.ListN.{getD}
 use lib.Dec.{eqb}
-use Rattle.model.specs.Lists.{numbersFrom, numbers, select, find, total}
-use Rattle.model.specs.Greedy.{Pass, pair, single, greedy, without}
+use Rattle.model.specs.Lists.{numbersFrom, numbers, select, total}
+use Rattle.model.specs.Greedy.{Pass, greedy, without}
 use Rattle.model.specs.Planning.{pairCount}
-use Rattle.tree_laws.specs.Lists.{answers, select-yes, select-no, range-mem}
-use Rattle.matching.specs.Passes.{greedy-with, greedy-alone, greedy-done}
+use Rattle.tree_laws.specs.Lists.{select-yes, select-no, range-mem}
+use Rattle.matching.specs.Passes.{greedy-done}
 use Rattle.schedule.specs.Schedule.{Schedule, fits, passesByPlace, visitsOf}
 use Rattle.schedule.specs.InWork.{matePart, openerPart, passOf, passAt}
 use Rattle.sweep_laws.specs.Sweeping.{freeAt, remaining, Made}

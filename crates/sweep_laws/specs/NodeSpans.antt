@@ -12,44 +12,44 @@ use Rattle.sweep_laws.specs.SegmentTree.{slots, entriesIn, smallest, Seg
 use Rattle.sweep_laws.specs.EntryLaws.{smallest-unique, slot-cell}
 
 -- the smallest of f at the n numbers from a on; FFFF for none
-pub least : (ℕ → ℕ) → ℕ → ℕ → ℕ
-least f a zero = FFFF
-least f a (suc n) = min (f a) (least f (suc a) n)
+pub leastOf : (ℕ → ℕ) → ℕ → ℕ → ℕ
+leastOf f a zero = FFFF
+leastOf f a (suc n) = min (f a) (leastOf f (suc a) n)
 
 module _ (f : ℕ → ℕ) where
-  least-cap : (a n : ℕ) → least f a n ≤ FFFF
-  unfolding least
+  least-cap : (a n : ℕ) → leastOf f a n ≤ FFFF
+  unfolding leastOf
   least-cap a zero = omega arith
   least-cap a (suc n) = omega (arith, least-cap (suc a) n)
 
-  least-le : (a n i : ℕ) → a ≤ i → i < a + n → least f a n ≤ f i
-  unfolding least
+  least-le : (a n i : ℕ) → a ≤ i → i < a + n → leastOf f a n ≤ f i
+  unfolding leastOf
   least-le a zero i h below = absurd (omega arith)
   least-le a (suc n) i h below = elim (ℕ-discrete i a) [
     | yes first ↦ rw first (omega arith)
     | no later ↦ omega (arith, least-le (suc a) n i (omega arith) (omega arith))
   ]
 
-  least-reached : (a n : ℕ) → (least f a n ≡ FFFF → ⊥) → (i : ℕ) × (a ≤ i) × (i < a + n) × (f i ≡ least f a n)
-  unfolding least
+  least-reached : (a n : ℕ) → (leastOf f a n ≡ FFFF → ⊥) → (i : ℕ) × (a ≤ i) × (i < a + n) × (f i ≡ leastOf f a n)
+  unfolding leastOf
   least-reached a zero some = absurd (some refl)
-  least-reached a (suc n) some = elim (decLe (f a) (least f (suc a) n)) [
+  least-reached a (suc n) some = elim (decLe (f a) (leastOf f (suc a) n)) [
     | yes first ↦ (a, omega arith, omega arith, omega arith)
     | no rest ↦
-        let same : min (f a) (least f (suc a) n) ≡ least f (suc a) n = omega arith in
+        let same : min (f a) (leastOf f (suc a) n) ≡ leastOf f (suc a) n = omega arith in
         let r = least-reached (suc a) n (λ none. some (same ∙ none)) in
         (r .0, omega (arith, r .1), omega (arith, r .2), r .3 ∙ sym same)
   ]
 
   -- two spans side by side
-  least-join : (a m n : ℕ) → least f a (m + n) ≡ min (least f a m) (least f (a + m) n)
-  unfolding least
+  least-join : (a m n : ℕ) → leastOf f a (m + n) ≡ min (leastOf f a m) (leastOf f (a + m) n)
+  unfolding leastOf
   least-join a zero n = rw (zero-add n, add-zero a) (omega (arith, least-cap a n))
   least-join a (suc m) n = rw (suc-add m n, least-join (suc a) m n, add-suc a m, suc-add a m) (omega arith)
 
   -- where each node is the smaller of the two below it, a span of nodes has the smallest place of the span below
-  least-double : (a n : ℕ) → ((i : ℕ) → a ≤ i → i < a + n → f i ≡ min (f (2 * i)) (f (2 * i + 1))) → least f (2 * a) (2 * n) ≡ least f a n
-  unfolding least
+  least-double : (a n : ℕ) → ((i : ℕ) → a ≤ i → i < a + n → f i ≡ min (f (2 * i)) (f (2 * i + 1))) → leastOf f (2 * a) (2 * n) ≡ leastOf f a n
+  unfolding leastOf
   least-double a zero node = refl
   least-double a (suc n) node =
       let two : 2 * suc n ≡ suc (suc (2 * n)) = omega arith in
@@ -58,8 +58,8 @@ module _ (f : ℕ → ℕ) where
       rw (two, next, odd, least-double (suc a) n (λ i b c. node i (omega arith) (omega arith))) (omega (arith, node a (omega arith) (omega arith)))
 
   -- at most one node, at the place x
-  least-few : (a n x : ℕ) → n ≤ 1 → (0 < n → a ≡ x) → min (f x) FFFF ≤ least f a n
-  unfolding least
+  least-few : (a n x : ℕ) → n ≤ 1 → (0 < n → a ≡ x) → min (f x) FFFF ≤ leastOf f a n
+  unfolding leastOf
   least-few a zero x h at = omega arith
   least-few a (suc zero) x h at = rw (at (omega arith)) (omega arith)
   least-few a (suc (suc n)) x h at = absurd (omega arith)
@@ -75,46 +75,45 @@ ends x p d t first last parts left right cap a b = omega arith
 taken-in : (best x e d : ℕ) → x ≡ min e d → min best x ≡ min (min best e) d
 taken-in best x e d parts = omega arith
 
--- the smallest place of the nodes from l up to r, together with the smallest so far, is that of the slots from `from` up to `to`
-pub record Narrowed (width : ℕ) (nodes : List ℕ) (from to l r best : ℕ) : Type 0 where
-  pub some : 1 ≤ l
+-- the smallest place of the nodes from l up to r, together with the smallest so far, is that of the nodes from left up to right
+pub record Narrowed (kept width : ℕ) (nodes : List ℕ) (left right l r best : ℕ) : Type 0 where
+  pub some : kept ≤ l
   pub order : l ≤ r
   pub within : r ≤ 2 * width
   pub cap : best ≤ FFFF
-  pub same : least (nodeAt nodes) (width + from) (to - from) ≡ min best (least (nodeAt nodes) l (r - l))
+  pub same : leastOf (nodeAt nodes) left (right - left) ≡ min best (leastOf (nodeAt nodes) l (r - l))
 
-module _ (width : ℕ) (nodes : List ℕ) (s : SegmentTree width nodes) where
-  pub narrowed-slots : (from to : ℕ) → from < to → to ≤ width → Narrowed width nodes from to (width + from) (width + to) FFFF
-  narrowed-slots from to h top =
-      let n : width + to - (width + from) ≡ to - from = omega arith in
+module _ (kept width : ℕ) (nodes : List ℕ) where
+  pub narrowed-first : (left right : ℕ) → kept ≤ left → left ≤ right → right ≤ 2 * width → Narrowed kept width nodes left right left right FFFF
+  narrowed-first left right some order within =
       record {
-        some = omega (arith, s .some);
-        order = omega arith;
-        within = omega (arith);
+        some = some;
+        order = order;
+        within = within;
         cap = omega arith;
-        same = rw n (omega (arith, least-cap (nodeAt nodes) (width + from) (to - from)));
+        same = omega (arith, least-cap (nodeAt nodes) left (right - left));
       }
 
   -- from the nodes of a level to their parents
-  pub narrowed-parents : (from to l r best : ℕ) → l < r → Narrowed width nodes from to l r best → Narrowed width nodes from to ((l + 1) / 2) (r / 2) (min best (min (nodeAt nodes l) (nodeAt nodes (r - 1))))
-  narrowed-parents from to l r best h n =
+  pub narrowed-parents : SegmentTree kept width nodes → (left right l r best : ℕ) → 2 * kept ≤ l → l < r → Narrowed kept width nodes left right l r best → Narrowed kept width nodes left right ((l + 1) / 2) (r / 2) (min best (min (nodeAt nodes l) (nodeAt nodes (r - 1))))
+  narrowed-parents s left right l r best below h n =
       let f : ℕ → ℕ = nodeAt nodes in
       let a : ℕ = (l + 1) / 2 in
       let b : ℕ = r / 2 in
       let whole : r - l ≡ (2 * a - l) + (2 * (b - a) + (r - 2 * b)) = omega arith in
       let mid : l + (2 * a - l) ≡ 2 * a = omega arith in
       let end : 2 * a + 2 * (b - a) ≡ 2 * b = omega arith in
-      let parts : least f l (r - l) ≡ min (least f l (2 * a - l)) (min (least f (2 * a) (2 * (b - a))) (least f (2 * b) (r - 2 * b))) =
+      let parts : leastOf f l (r - l) ≡ min (leastOf f l (2 * a - l)) (min (leastOf f (2 * a) (2 * (b - a))) (leastOf f (2 * b) (r - 2 * b))) =
       rw (whole, least-join f l (2 * a - l) (2 * (b - a) + (r - 2 * b)), mid, least-join f (2 * a) (2 * (b - a)) (r - 2 * b), end) in
-      let above : least f (2 * a) (2 * (b - a)) ≡ least f a (b - a) =
-      least-double f a (b - a) (λ i c d. s .inner i (omega (arith, n .some)) (omega (arith, n .within))) in
+      let above : leastOf f (2 * a) (2 * (b - a)) ≡ leastOf f a (b - a) =
+      least-double f a (b - a) (λ i c d. s .inner i (omega arith) (omega (arith, n .within))) in
       record {
-        some = omega (arith, n .some);
+        some = omega arith;
         order = omega arith;
         within = omega (arith, n .within);
         cap = omega (arith, n .cap);
-        same = n .same ∙ taken-in best (least f l (r - l)) (min (f l) (f (r - 1))) (least f a (b - a))
-            (ends (least f l (r - l)) (least f l (2 * a - l)) (least f a (b - a)) (least f (2 * b) (r - 2 * b)) (f l) (f (r - 1))
+        same = n .same ∙ taken-in best (leastOf f l (r - l)) (min (f l) (f (r - 1))) (leastOf f a (b - a))
+            (ends (leastOf f l (r - l)) (leastOf f l (2 * a - l)) (leastOf f a (b - a)) (leastOf f (2 * b) (r - 2 * b)) (f l) (f (r - 1))
             (rw above at parts)
             (least-few f l (2 * a - l) l (omega arith) (λ some. refl))
             (least-few f (2 * b) (r - 2 * b) (r - 1) (omega arith) (λ some. omega arith))
@@ -123,20 +122,46 @@ module _ (width : ℕ) (nodes : List ℕ) (s : SegmentTree width nodes) where
             (least-le f l (r - l) (r - 1) (omega arith) (omega arith)));
       }
 
+-- ---- along the nodes of a level
+
+-- the nodes from l up to `at` are taken into `answer`, which began as `best`
+pub record Along (nodes : List ℕ) (l r best at answer : ℕ) : Type 0 where
+  pub cap : answer ≤ FFFF
+  pub same : min best (leastOf (nodeAt nodes) l (r - l)) ≡ min answer (leastOf (nodeAt nodes) at (r - at))
+
+module _ (nodes : List ℕ) (l r best : ℕ) where
+  pub along-first : best ≤ FFFF → Along nodes l r best l best
+  along-first h = record { cap = h; same = refl }
+
+  pub along-next : (at answer : ℕ) → at < r → Along nodes l r best at answer → Along nodes l r best (at + 1) (min answer (nodeAt nodes at))
+  unfolding leastOf
+  along-next at answer h w =
+      let one : r - at ≡ suc (r - suc at) = omega arith in
+      let next : suc at ≡ at + 1 = omega arith in
+      let split : leastOf (nodeAt nodes) at (r - at) ≡ min (nodeAt nodes at) (leastOf (nodeAt nodes) (at + 1) (r - (at + 1))) = rw (one, next) refl in
+      record { cap = omega (arith, w .cap); same = omega (arith, w .same, split) }
+
+  pub along-all : (at answer : ℕ) → r ≤ at → Along nodes l r best at answer → answer ≡ min best (leastOf (nodeAt nodes) l (r - l))
+  unfolding leastOf
+  along-all at answer h w =
+      let none : r - at ≡ 0 = omega arith in
+      sym (w .same ∙ rw none (omega (arith, w .cap)))
+
+-- ---- the nodes of the slots
+
+module _ (kept width : ℕ) (nodes : List ℕ) (s : SegmentTree kept width nodes) where
   -- a node of the slots, as its slot
   slot-of-node : (from to i m : ℕ) → to ≤ width → width + from ≤ i → i < width + from + (to - from) → nodeAt nodes i ≡ m → (t : ℕ) × (from ≤ t) × (t < to) × (getD (slots width nodes) t FFFF ≡ m)
   slot-of-node from to i m top a b e =
       let back : width + (i - width) ≡ i = omega arith in
       (i - width, omega arith, omega arith, rw (slot-cell width nodes (s .room) (i - width) (omega arith), back) e)
 
-  -- no node is left
-  pub narrowed-all : (from to l r best : ℕ) → to ≤ width → r ≤ l → Narrowed width nodes from to l r best → best ≡ smallest (entriesIn width nodes) from to
-  unfolding least
-  narrowed-all from to l r best top h n =
-      let none : r - l ≡ 0 = omega arith in
-      let is : least (nodeAt nodes) (width + from) (to - from) ≡ best = n .same ∙ rw none (omega (arith, n .cap)) in
-      smallest-unique (slots width nodes) from to best (n .cap)
-      (λ t c d. rw (slot-cell width nodes (s .room) t (omega arith)) (omega (arith, least-le (nodeAt nodes) (width + from) (to - from) (width + t) (omega arith) (omega arith))))
+  -- the smallest place of a span of them
+  pub slots-smallest : (from to : ℕ) → to ≤ width → leastOf (nodeAt nodes) (width + from) (to - from) ≡ smallest (entriesIn width nodes) from to
+  slots-smallest from to top =
+      let f : ℕ → ℕ = nodeAt nodes in
+      smallest-unique (slots width nodes) from to (leastOf f (width + from) (to - from)) (least-cap f (width + from) (to - from))
+      (λ t c d. rw (slot-cell width nodes (s .room) t (omega arith)) (least-le f (width + from) (to - from) (width + t) (omega arith) (omega arith)))
       (λ some.
-      let i = least-reached (nodeAt nodes) (width + from) (to - from) (λ e. some (sym is ∙ e)) in
-      slot-of-node from to (i .0) best top (i .1) (i .2) (i .3 ∙ is))
+      let i = least-reached f (width + from) (to - from) some in
+      slot-of-node from to (i .0) (leastOf f (width + from) (to - from)) top (i .1) (i .2) (i .3))

@@ -1,15 +1,15 @@
 -- Laws of a segment tree's nodes: what clearing leaves, and what an insertion or a removal has done once it has come up to a node.
-use Prim.Native.Nat.{ℕ, suc, _+_, _-_, _*_, _/_, _<_, _≤_, min}
+use Prim.Native.Nat.{ℕ, _+_, _-_, _*_, _/_, _<_, _≤_, min}
 use mathlib.Core.Path.{_≡_, refl, sym, ap, _∙_}
 use mathlib.Core.Logic.{_≢_}
-use mathlib.Core.List.{List, [], _++_, append-assoc}
+use mathlib.Core.List.{List, _++_, append-assoc}
 use native.Mathlib.Omega.{arith}
 use native.Mathlib.Decide.{ℕ-discrete}
 use lib.ListN.{length, getD, take, drop, set, replicate, length-set, length-append, length-replicate, getD-replicate, length-drop, replicate-append-replicate, List·getD-append}
 use borrow.Author.Fill.{fill-more}
 use lib.Seq.{getD-set-same, getD-set-other, drop-set-lt, drop-set-add, take-set-lt, drop-at, take-at}
 use Rattle.model.specs.Tree.{FFFF}
-use Rattle.sweep_laws.specs.SegmentTree.{slots, entries, entriesIn, insertEntry, removeEntry, SegmentTree, Holding, Cleared, Inserted, Removed, Insertable}
+use Rattle.sweep_laws.specs.SegmentTree.{slots, entries, entriesIn, SegmentTree, Cleared, Inserted, Removed, Clearable, Insertable}
 use Rattle.sweep_laws.specs.EntryLaws.{slots-length, slot-cell, vacant-slot, entries-insert, entries-remove, no-entries}
 
 -- a store into a slot
@@ -23,19 +23,20 @@ unfolding slots
 inner-set width nodes n p h = rw (drop-set-lt width nodes n p h)
 
 -- what a way up from a slot keeps, `old` being the cells with the slot stored: no slot changes, and nothing past the tree
-pub record Stored (width : ℕ) (old new : List ℕ) : Type 0 where
-  pub some : 1 ≤ width
+pub record Stored (kept width : ℕ) (old new : List ℕ) : Type 0 where
+  pub some : 1 ≤ kept
+  pub inside : kept ≤ width
   pub room : 2 * width ≤ length new
   pub same : length new ≡ length old
   pub holds : slots width new ≡ slots width old
   pub past : drop (2 * width) new ≡ drop (2 * width) old
 
-module _ (width : ℕ) (cells : List ℕ) (slot p : ℕ) (s : SegmentTree width cells) (inside : slot < width) where
-  stored-slot : Stored width (set cells (width + slot) p) (set cells (width + slot) p)
-  stored-slot = record { some = s .some; room = rw length-set (s .room); same = refl; holds = refl; past = refl }
+module _ (kept width : ℕ) (cells : List ℕ) (slot p : ℕ) (s : SegmentTree kept width cells) (inside : slot < width) where
+  stored-slot : Stored kept width (set cells (width + slot) p) (set cells (width + slot) p)
+  stored-slot = record { some = s .some; inside = s .within; room = rw length-set (s .room); same = refl; holds = refl; past = refl }
 
   -- every inner node but the one above the slot is right
-  stored-inner : (n : ℕ) → 1 ≤ n → n < width → n ≢ (width + slot) / 2 → getD (set cells (width + slot) p) n 0 ≡ min (getD (set cells (width + slot) p) (2 * n) 0) (getD (set cells (width + slot) p) (2 * n + 1) 0)
+  stored-inner : (n : ℕ) → kept ≤ n → n < width → n ≢ (width + slot) / 2 → getD (set cells (width + slot) p) n 0 ≡ min (getD (set cells (width + slot) p) (2 * n) 0) (getD (set cells (width + slot) p) (2 * n + 1) 0)
   stored-inner n a b other =
       let here : n ≡ width + slot → ⊥ = λ e. omega arith in
       let left : 2 * n ≡ width + slot → ⊥ = λ e. other (omega arith) in
@@ -43,17 +44,18 @@ module _ (width : ℕ) (cells : List ℕ) (slot p : ℕ) (s : SegmentTree width 
       rw (getD-set-other cells (width + slot) n p 0 here, getD-set-other cells (width + slot) (2 * n) p 0 left, getD-set-other cells (width + slot) (2 * n + 1) p 0 right) (s .inner n a b)
 
   -- what the slots hold in the end
-  stored-holds : (new : List ℕ) → Stored width (set cells (width + slot) p) new → slots width new ≡ set (slots width cells) slot p
+  stored-holds : (new : List ℕ) → Stored kept width (set cells (width + slot) p) new → slots width new ≡ set (slots width cells) slot p
   stored-holds new r = r .holds ∙ slot-set width cells slot p inside
 
-  stored-past : (new : List ℕ) → Stored width (set cells (width + slot) p) new → drop (2 * width) new ≡ drop (2 * width) cells
+  stored-past : (new : List ℕ) → Stored kept width (set cells (width + slot) p) new → drop (2 * width) new ≡ drop (2 * width) cells
   stored-past new r = r .past ∙ drop-set-lt (2 * width) cells (width + slot) p (omega arith)
 
 -- a store into an inner node
-stored-node : (width : ℕ) (old new : List ℕ) (n v : ℕ) → n < width → Stored width old new → Stored width old (set new n v)
-stored-node width old new n v h r =
+stored-node : (kept width : ℕ) (old new : List ℕ) (n v : ℕ) → n < width → Stored kept width old new → Stored kept width old (set new n v)
+stored-node kept width old new n v h r =
     record {
       some = r .some;
+      inside = r .inside;
       room = rw length-set (r .room);
       same = rw length-set (r .same);
       holds = inner-set width new n v h ∙ r .holds;
@@ -63,11 +65,11 @@ stored-node width old new n v h r =
 -- ---- an insertion on its way up
 
 -- it has come up to `node`: every other inner node is right, and this one is right once it takes p
-pub record Inserting (width p : ℕ) (old new : List ℕ) (node : ℕ) : Type 0 where
-  pub stored : Stored width old new
+pub record Inserting (kept width p : ℕ) (old new : List ℕ) (node : ℕ) : Type 0 where
+  pub stored : Stored kept width old new
   pub within : node < width
-  pub inner : (n : ℕ) → 1 ≤ n → n < width → n ≢ node → getD new n 0 ≡ min (getD new (2 * n) 0) (getD new (2 * n + 1) 0)
-  pub next : 1 ≤ node → min (getD new node 0) p ≡ min (getD new (2 * node) 0) (getD new (2 * node + 1) 0)
+  pub inner : (n : ℕ) → kept ≤ n → n < width → n ≢ node → getD new n 0 ≡ min (getD new (2 * n) 0) (getD new (2 * n + 1) 0)
+  pub next : kept ≤ node → min (getD new node 0) p ≡ min (getD new (2 * node) 0) (getD new (2 * node + 1) 0)
 
 -- where the node above a node is right, it is right again once both take p
 above-right : (new : List ℕ) (node p v : ℕ) → 2 ≤ node → node < length new → v ≡ min (getD new node 0) p → getD new (node / 2) 0 ≡ min (getD new (2 * (node / 2)) 0) (getD new (2 * (node / 2) + 1) 0) → min (getD (set new node v) (node / 2) 0) p ≡ min (getD (set new node v) (2 * (node / 2)) 0) (getD (set new node v) (2 * (node / 2) + 1) 0)
@@ -89,23 +91,23 @@ above-right new node p v h inside v-is right =
     ]
 
 -- the slot is stored
-pub inserting-slot : (width : ℕ) (cells : List ℕ) (slot p : ℕ) → Insertable width cells slot p → Inserting width p (set cells (width + slot) p) (set cells (width + slot) p) ((width + slot) / 2)
-inserting-slot width cells slot p i =
+pub inserting-slot : (kept width : ℕ) (cells : List ℕ) (slot p : ℕ) → Insertable kept width cells slot p → Inserting kept width p (set cells (width + slot) p) (set cells (width + slot) p) ((width + slot) / 2)
+inserting-slot kept width cells slot p i =
     let empty : getD cells (width + slot) 0 ≡ FFFF = sym (slot-cell width cells (i .tree .room) slot (i .inside)) ∙ vacant-slot (slots width cells) slot (i .vacant) in
     record {
-      stored = stored-slot width cells slot p (i .tree) (i .inside);
+      stored = stored-slot kept width cells slot p (i .tree) (i .inside);
       within = omega (arith, i .inside);
-      inner = stored-inner width cells slot p (i .tree) (i .inside);
+      inner = stored-inner kept width cells slot p (i .tree) (i .inside);
       next = λ h. above-right cells (width + slot) p p (omega arith) (omega (arith, i .tree .room, i .inside)) (omega (arith, i .some-place)) (i .tree .inner ((width + slot) / 2) h (omega (arith, i .inside)));
     }
 
-module _ (width p : ℕ) where
+module _ (kept width p : ℕ) where
   -- the node takes p
-  pub inserting-step : (old new : List ℕ) (node v : ℕ) → 1 ≤ node → v ≡ min (getD new node 0) p → Inserting width p old new node → Inserting width p old (set new node v) (node / 2)
+  pub inserting-step : (old new : List ℕ) (node v : ℕ) → kept ≤ node → v ≡ min (getD new node 0) p → Inserting kept width p old new node → Inserting kept width p old (set new node v) (node / 2)
   inserting-step old new node v h v-is r =
       let inside : node < length new = omega (arith, r .within, r .stored .room) in
       record {
-        stored = stored-node width old new node v (r .within) (r .stored);
+        stored = stored-node kept width old new node v (r .within) (r .stored);
         within = omega (arith, r .within);
         inner = λ n a b other. elim (ℕ-discrete n node) [
           | yes e ↦
@@ -121,23 +123,23 @@ module _ (width p : ℕ) where
       }
 
   -- no node stands above the root
-  pub inserting-done : (cells : List ℕ) (slot : ℕ) (new : List ℕ) (node : ℕ) → node < 1 → Insertable width cells slot p → Inserting width p (set cells (width + slot) p) new node → Inserted width cells slot p new
+  pub inserting-done : (cells : List ℕ) (slot : ℕ) (new : List ℕ) (node : ℕ) → node < kept → Insertable kept width cells slot p → Inserting kept width p (set cells (width + slot) p) new node → Inserted kept width cells slot p new
   inserting-done cells slot new node top i r =
       record {
-        tree = record { some = r .stored .some; room = r .stored .room; inner = λ n a b. r .inner n a b (λ e. omega arith) };
-        entries-are = ap entries (stored-holds width cells slot p (i .tree) (i .inside) new (r .stored)) ∙ entries-insert (slots width cells) slot p (rw (slots-length width cells (i .tree .room)) (i .inside)) (i .some-place) (i .vacant);
-        past = stored-past width cells slot p (i .tree) (i .inside) new (r .stored);
+        tree = record { some = r .stored .some; within = r .stored .inside; room = r .stored .room; inner = λ n a b. r .inner n a b (λ e. omega arith) };
+        entries-are = ap entries (stored-holds kept width cells slot p (i .tree) (i .inside) new (r .stored)) ∙ entries-insert (slots width cells) slot p (rw (slots-length width cells (i .tree .room)) (i .inside)) (i .some-place) (i .vacant);
+        past = stored-past kept width cells slot p (i .tree) (i .inside) new (r .stored);
       }
 
 -- ---- a removal on its way up
 
 -- it has come up to `node`, where the smallest place is `least`: every inner node but the one above is right
-pub record Removing (width : ℕ) (old new : List ℕ) (node least : ℕ) : Type 0 where
-  pub stored : Stored width old new
-  pub some : 1 ≤ node
+pub record Removing (kept width : ℕ) (old new : List ℕ) (node least : ℕ) : Type 0 where
+  pub stored : Stored kept width old new
+  pub above : kept ≤ node
   pub within : node < 2 * width
   pub least-is : least ≡ getD new node 0
-  pub inner : (n : ℕ) → 1 ≤ n → n < width → n ≢ node / 2 → getD new n 0 ≡ min (getD new (2 * n) 0) (getD new (2 * n + 1) 0)
+  pub inner : (n : ℕ) → kept ≤ n → n < width → n ≢ node / 2 → getD new n 0 ≡ min (getD new (2 * n) 0) (getD new (2 * n + 1) 0)
 
 -- the smaller of a node and its sibling
 pub siblings : (new : List ℕ) (node : ℕ) → min (getD new node 0) (getD new (4 * (node / 2) + 1 - node) 0) ≡ min (getD new (2 * (node / 2)) 0) (getD new (2 * (node / 2) + 1) 0)
@@ -153,37 +155,37 @@ siblings new node = elim (ℕ-discrete node (2 * (node / 2))) [
       rw sibling (omega arith)
 ]
 
-module _ (width : ℕ) (cells : List ℕ) (slot : ℕ) (s : SegmentTree width cells) (inside : slot < width) where
+module _ (kept width : ℕ) (cells : List ℕ) (slot : ℕ) (s : SegmentTree kept width cells) (inside : slot < width) where
   -- the slot is emptied
-  pub removing-slot : Removing width (set cells (width + slot) FFFF) (set cells (width + slot) FFFF) (width + slot) FFFF
+  pub removing-slot : Removing kept width (set cells (width + slot) FFFF) (set cells (width + slot) FFFF) (width + slot) FFFF
   removing-slot =
       record {
-        stored = stored-slot width cells slot FFFF s inside;
-        some = omega (arith, s .some);
+        stored = stored-slot kept width cells slot FFFF s inside;
+        above = omega (arith, s .within);
         within = omega arith;
         least-is = sym (getD-set-same cells (width + slot) FFFF 0 (omega (arith, s .room)));
-        inner = stored-inner width cells slot FFFF s inside;
+        inner = stored-inner kept width cells slot FFFF s inside;
       }
 
   -- no node stands above the root
-  pub removing-done : (new : List ℕ) (node least : ℕ) → node ≤ 1 → Removing width (set cells (width + slot) FFFF) new node least → Removed width cells slot new
+  pub removing-done : (new : List ℕ) (node least : ℕ) → node < 2 * kept → Removing kept width (set cells (width + slot) FFFF) new node least → Removed kept width cells slot new
   removing-done new node least top r =
       record {
-        tree = record { some = r .stored .some; room = r .stored .room; inner = λ n a b. r .inner n a b (λ e. omega arith) };
-        entries-are = ap entries (stored-holds width cells slot FFFF s inside new (r .stored)) ∙ entries-remove (slots width cells) slot;
-        past = stored-past width cells slot FFFF s inside new (r .stored);
+        tree = record { some = r .stored .some; within = r .stored .inside; room = r .stored .room; inner = λ n a b. r .inner n a b (λ e. omega arith) };
+        entries-are = ap entries (stored-holds kept width cells slot FFFF s inside new (r .stored)) ∙ entries-remove (slots width cells) slot;
+        past = stored-past kept width cells slot FFFF s inside new (r .stored);
       }
 
 -- the node above takes the smaller of the node and its sibling
-pub removing-step : (width : ℕ) (old new : List ℕ) (node least v : ℕ) → 1 < node → v ≡ min least (getD new (4 * (node / 2) + 1 - node) 0) → Removing width old new node least → Removing width old (set new (node / 2) v) (node / 2) v
-removing-step width old new node least v h v-is r =
+pub removing-step : (kept width : ℕ) (old new : List ℕ) (node least v : ℕ) → 2 * kept ≤ node → v ≡ min least (getD new (4 * (node / 2) + 1 - node) 0) → Removing kept width old new node least → Removing kept width old (set new (node / 2) v) (node / 2) v
+removing-step kept width old new node least v h v-is r =
     let m : ℕ = node / 2 in
     let below : m < width = omega (arith, r .within) in
     let inside : m < length new = omega (arith, r .stored .room) in
     let both : v ≡ min (getD new (2 * m) 0) (getD new (2 * m + 1) 0) = v-is ∙ ap (λ (x : ℕ). min x (getD new (4 * m + 1 - node) 0)) (r .least-is) ∙ siblings new node in
     record {
-      stored = stored-node width old new m v below (r .stored);
-      some = omega arith;
+      stored = stored-node kept width old new m v below (r .stored);
+      above = omega arith;
       within = omega arith;
       least-is = sym (getD-set-same new m v 0 inside);
       inner = λ n a b other.
@@ -202,7 +204,10 @@ pub record ClearedTo (width : ℕ) (old new : List ℕ) (at : ℕ) : Type 0 wher
   pub within : at ≤ 2 * width
   pub filled : new ≡ replicate at FFFF ++ drop at old
 
-module _ (width : ℕ) (old : List ℕ) (some : 1 ≤ width) (room : 2 * width ≤ length old) where
+module _ (kept width : ℕ) (old : List ℕ) (b : Clearable kept width old) where
+  room : 2 * width ≤ length old
+  room = b .room
+
   cleared-length : (at : ℕ) → at ≤ 2 * width → length (replicate at FFFF ++ drop at old) ≡ length old
   cleared-length at h = rw (length-append (replicate at FFFF) (drop at old), length-replicate at FFFF, length-drop at old) (omega arith)
 
@@ -219,10 +224,11 @@ module _ (width : ℕ) (old : List ℕ) (some : 1 ≤ width) (room : 2 * width �
   cleared-at : (n : ℕ) → n < 2 * width → getD (replicate (2 * width) FFFF ++ drop (2 * width) old) n 0 ≡ FFFF
   cleared-at n h = List·getD-append (replicate (2 * width) FFFF) (drop (2 * width) old) 0 n (rw length-replicate h) ∙ getD-replicate (2 * width) n FFFF 0 h
 
-  cleared-tree : SegmentTree width (replicate (2 * width) FFFF ++ drop (2 * width) old)
+  cleared-tree : SegmentTree kept width (replicate (2 * width) FFFF ++ drop (2 * width) old)
   cleared-tree =
       record {
-        some = some;
+        some = b .some;
+        within = b .within;
         room = rw (cleared-length (2 * width) (omega arith)) room;
         inner = λ n a b. rw (cleared-at n (omega arith), cleared-at (2 * n) (omega arith), cleared-at (2 * n + 1) (omega arith));
       }
@@ -237,7 +243,7 @@ module _ (width : ℕ) (old : List ℕ) (some : 1 ≤ width) (room : 2 * width �
       ∙ ap (λ (l : List ℕ). take width l) (drop-at (replicate width FFFF) (replicate width FFFF ++ rest) width (length-replicate width FFFF))
       ∙ take-at (replicate width FFFF) rest width (length-replicate width FFFF)
 
-  pub cleared-all : (at : ℕ) (new : List ℕ) → 2 * width ≤ at → ClearedTo width old new at → Cleared width old new
+  pub cleared-all : (at : ℕ) (new : List ℕ) → 2 * width ≤ at → ClearedTo width old new at → Cleared kept width old new
   cleared-all at new h c =
       let e : at ≡ 2 * width = omega (arith, c .within) in
       let whole : new ≡ replicate (2 * width) FFFF ++ drop (2 * width) old = rw e at (c .filled) in

@@ -1,21 +1,20 @@
 -- Reaching one place more: it is at or behind the sweep, free, and not in the segment tree yet, and it comes to wait there.
-use Prim.Native.Nat.{ℕ, zero, suc, _+_, _-_, _*_, _<_, _≤_}
+use Prim.Native.Nat.{ℕ, zero, suc, _+_, _*_, _<_, _≤_}
 use mathlib.Core.Path.{_≡_, refl, sym, ap, _∙_}
-use mathlib.Core.Logic.{_⊎_, inl, inr, ⊎-elim, _≢_}
-use mathlib.Core.Bool.{Bool, true, false}
-use mathlib.Core.List.{List, [], _∷_, _++_, List·Memᴰ as Mem, List·Memᴰ·not-nil as not-nil, List·Memᴰ·cases-cons as mem-cons, List·Memᴰ·eq-of-singleton as mem-only, Memᴰ·append-left as mem-left, Memᴰ·append-right as mem-right, List·Memᴰ·append-cases as mem-append, List·Memᴰ·head as here}
+use mathlib.Core.Logic.{_⊎_, inl, inr, ⊎-elim}
+use mathlib.Core.Bool.{true, false}
+use mathlib.Core.List.{List, [], _∷_, List·Memᴰ as Mem, List·Memᴰ·not-nil as not-nil, List·Memᴰ·cases-cons as mem-cons, List·Memᴰ·eq-of-singleton as mem-only, Memᴰ·append-left as mem-left, Memᴰ·append-right as mem-right, List·Memᴰ·append-cases as mem-append, List·Memᴰ·head as here}
 use native.Mathlib.Omega.{arith}
 use native.Mathlib.Numerals.{add-one}
 use native.Mathlib.Decide.{decLt}
 use lib.ListN.{length, getD, take}
 use lib.Seq.{take-suc}
-use Rattle.model.specs.Tree.{FFFF}
 use Rattle.tree_laws.specs.Lists.{answers}
 use Rattle.schedule.specs.Schedule.{Schedule, slotAt, dueAt}
 use Rattle.schedule.specs.InWork.{slotPart, fromPart, toPart, reachedPart, duePart, treePart}
 use Rattle.sweep_laws.specs.SegmentTree.{entriesIn, insertEntry, Insertable}
 use Rattle.sweep_laws.specs.WorkCells.{FrontKept, front-refl, front-both, treeIn, TreeChanged}
-use Rattle.sweep_laws.specs.Sweeping.{freeAt, Open, Setting, Cells, Sweeping, PlaceInsertable, ReachedAt}
+use Rattle.sweep_laws.specs.Sweeping.{freeAt, Open, Cells, Sweeping, PlaceInsertable, ReachedAt}
 use Rattle.sweep_laws.specs.WaitingLaws.{waiting-as, waiting-vacant, waiting-insert}
 
 -- ---- cells whose front is kept
@@ -47,7 +46,7 @@ take-place {x} (suc r) (y ∷ l) m = ⊎-elim
     (λ (m : Mem x (take r l)). let t = take-place r l m in (suc (t .0), omega (arith, t .1), omega (arith, t .2), t .3))
     (mem-cons m)
 
-module _ (s : Schedule) (n width i r : ℕ) (work : List ℕ) (w : Sweeping s n width i r work) (known : i < n) (due : r < dueAt s i) where
+module _ (s : Schedule) (n kept width i r : ℕ) (work : List ℕ) (w : Sweeping s n kept width i r work) (known : i < n) (due : r < dueAt s i) where
   abbrev q : ℕ
   q = getD (s .reached) r 0
 
@@ -90,7 +89,7 @@ module _ (s : Schedule) (n width i r : ℕ) (work : List ℕ) (w : Sweeping s n 
     pub place-known : p < n
     place-known = rw place-is reached-known
 
-    pub place-insertable : Insertable width (treeIn n work) (getD work (slotPart * n + p) 0) p
+    pub place-insertable : Insertable kept width (treeIn n work) (getD work (slotPart * n + p) 0) p
     place-insertable =
         let at : getD work (slotPart * n + p) 0 ≡ slotAt s q = w .cells .slot-cell p place-known ∙ ap (slotAt s) place-is in
         rw (at, place-is)
@@ -98,13 +97,13 @@ module _ (s : Schedule) (n width i r : ℕ) (work : List ℕ) (w : Sweeping s n 
           tree = w .waiting .tree;
           inside = rw (w .setting .width-is, ← (w .setting .places-are)) (w .setting .sound .slot-inside q (rw (w .setting .places-are) reached-known));
           some-place = omega (arith, reached-known, w .setting .few);
-          vacant = waiting-vacant s n width (w .setting) (Open s n i r work) (treeIn n work) q reached-known (λ o. unreached (o .2)) (w .waiting);
+          vacant = waiting-vacant s n kept width (w .setting) (Open s n i r work) (treeIn n work) q reached-known (λ o. unreached (o .2)) (w .waiting);
         })
 
-    pub place-reached : (work′ : List ℕ) → TreeChanged n width (insertEntry (getD work (slotPart * n + p) 0) p (entriesIn width (treeIn n work))) work work′ → Sweeping s n width i (r + 1) work′
+    pub place-reached : (work′ : List ℕ) → TreeChanged n kept width (insertEntry (getD work (slotPart * n + p) 0) p (entriesIn width (treeIn n work))) work work′ → Sweeping s n kept width i (r + 1) work′
     place-reached work′ c =
         let at : getD work (slotPart * n + p) 0 ≡ slotAt s q = w .cells .slot-cell p place-known ∙ ap (slotAt s) place-is in
-        let c′ : TreeChanged n width (insertEntry (slotAt s q) q (entriesIn width (treeIn n work))) work work′ = rw (at, place-is) at c in
+        let c′ : TreeChanged n kept width (insertEntry (slotAt s q) q (entriesIn width (treeIn n work))) work work′ = rw (at, place-is) at c in
         let free : (p : ℕ) → p < n → freeAt n work′ p ≡ freeAt n work p = free-kept n work work′ (c .front) in
         rw add-one
         (record {
@@ -114,36 +113,36 @@ module _ (s : Schedule) (n width i r : ℕ) (work : List ℕ) (w : Sweeping s n 
           next-inside = reached-inside;
           behind = λ p h. omega (arith, w .behind p h);
           ahead = λ p l h. omega (arith, w .setting .sound .due-rises i p l (rw (w .setting .places-are) h));
-          waiting = waiting-as s n width (w .setting) (λ (p : ℕ). Open s n i r work p ⊎ (p ≡ q)) (Open s n i (suc r) work′) (treeIn n work′)
+          waiting = waiting-as s n kept width (w .setting) (λ (p : ℕ). Open s n i r work p ⊎ (p ≡ q)) (Open s n i (suc r) work′) (treeIn n work′)
               (λ p h u. ⊎-elim
               (λ (o : Open s n i r work p). (o .0, free p h ∙ o .1, front-more p (inl (o .2))))
               (λ (e : p ≡ q). (rw e reached-late, free p h ∙ rw e reached-free, front-more p (inr e)))
               u)
               (λ p h o. ⊎-elim (λ (m : Mem p (take r (s .reached))). inl (o .0, sym (free p h) ∙ o .1, m)) (λ (e : p ≡ q). inr e) (more-front p (o .2)))
-              (waiting-insert s n width (w .setting) (Open s n i r work) work work′ q reached-known (w .waiting) c′);
+              (waiting-insert s n kept width (w .setting) (Open s n i r work) work work′ q reached-known (w .waiting) c′);
         })
 
-    pub place-ready : PlaceInsertable n width p work
+    pub place-ready : PlaceInsertable n kept width p work
     place-ready = record { inside = place-known; room = omega (arith, w .cells .room); insertable = place-insertable }
 
 -- ---- reaching all that is due
 
 -- `at` of the places that can be found are reached, on the way from `next` to `due`
-pub record ReachingTo (n width next due : ℕ) (old : List ℕ) (at : ℕ) (work : List ℕ) : Type 0 where
+pub record ReachingTo (n kept width next due : ℕ) (old : List ℕ) (at : ℕ) (work : List ℕ) : Type 0 where
   pub front : FrontKept (treePart * n) old work
   pub within : at ≤ due
-  pub reaching : (s : Schedule) (i : ℕ) → i < n → due ≡ dueAt s i → Sweeping s n width i next old → Sweeping s n width i at work
+  pub reaching : (s : Schedule) (i : ℕ) → i < n → due ≡ dueAt s i → Sweeping s n kept width i next old → Sweeping s n kept width i at work
 
-module _ (s : Schedule) (n width i next due : ℕ) (old : List ℕ) (known : i < n) (w : Sweeping s n width i next old) (due-is : due ≡ getD old (duePart * n + i) 0) where
+module _ (s : Schedule) (n kept width i next due : ℕ) (old : List ℕ) (known : i < n) (w : Sweeping s n kept width i next old) (due-is : due ≡ getD old (duePart * n + i) 0) where
   pub due-at : due ≡ dueAt s i
   due-at = due-is ∙ w .cells .due-cell i (omega arith) known
 
-  pub reaching-begins : ReachingTo n width next due old next old
+  pub reaching-begins : ReachingTo n kept width next due old next old
   reaching-begins = record { front = front-refl (treePart * n) old; within = omega (arith, due-at, w .ahead i (omega arith) known); reaching = λ s i h e w. w }
 
   -- the sweep, with `at` reached
-  module _ (at : ℕ) (work : List ℕ) (r : ReachingTo n width next due old at work) where
-    pub now-sweeping : Sweeping s n width i at work
+  module _ (at : ℕ) (work : List ℕ) (r : ReachingTo n kept width next due old at work) where
+    pub now-sweeping : Sweeping s n kept width i at work
     now-sweeping = r .reaching s i known due-at w
 
     module _ (more : at < due) where
@@ -151,21 +150,21 @@ module _ (s : Schedule) (n width i next due : ℕ) (old : List ℕ) (known : i <
       soon = omega (arith, due-at)
 
       pub at-inside : at < n
-      at-inside = omega (arith, reached-inside s n width i at work now-sweeping known soon, few s n width i at work now-sweeping known soon)
+      at-inside = omega (arith, reached-inside s n kept width i at work now-sweeping known soon, few s n kept width i at work now-sweeping known soon)
 
-      pub reaching-ready : (p : ℕ) → p ≡ getD work (reachedPart * n + at) 0 → PlaceInsertable n width p work
-      reaching-ready p p-is = place-ready s n width i at work now-sweeping known soon p p-is
+      pub reaching-ready : (p : ℕ) → p ≡ getD work (reachedPart * n + at) 0 → PlaceInsertable n kept width p work
+      reaching-ready p p-is = place-ready s n kept width i at work now-sweeping known soon p p-is
 
-      pub reaching-further : (p : ℕ) (work′ : List ℕ) → p ≡ getD work (reachedPart * n + at) 0 → TreeChanged n width (insertEntry (getD work (slotPart * n + p) 0) p (entriesIn width (treeIn n work))) work work′ → ReachingTo n width next due old (at + 1) work′
+      pub reaching-further : (p : ℕ) (work′ : List ℕ) → p ≡ getD work (reachedPart * n + at) 0 → TreeChanged n kept width (insertEntry (getD work (slotPart * n + p) 0) p (entriesIn width (treeIn n work))) work work′ → ReachingTo n kept width next due old (at + 1) work′
       reaching-further p work′ p-is c =
           record {
             front = front-both (treePart * n) old work work′ (r .front) (c .front);
             within = omega arith;
-            reaching = λ s i h e w. place-reached s n width i at work (r .reaching s i h e w) h (omega arith) p p-is work′ c;
+            reaching = λ s i h e w. place-reached s n kept width i at work (r .reaching s i h e w) h (omega arith) p p-is work′ c;
           }
 
     -- all are reached
-    pub reaching-done : due ≤ at → ReachedAt n width i next old due work
+    pub reaching-done : due ≤ at → ReachedAt n kept width i next old due work
     reaching-done h =
         let all : at ≡ due = omega (arith, r .within) in
         record {

@@ -1,5 +1,6 @@
--- The segment tree for the smallest place in a span of slots (document 01, "The shelf and its cells"): node 1 is the root, node n stands above nodes 2n and
--- 2n + 1, slot s at width + s; a node holds the smallest place under it, FFFF for none. What it holds is told by the plain list of its entries.
+-- The segment tree for the smallest place in a span of slots (document 01, "The shelf and its cells"): node n stands above nodes 2n and 2n + 1, slot s at
+-- width + s; a node holds the smallest place under it, FFFF for none. The uppermost levels, those in front of node `kept`, are left out. What a tree holds is
+-- told by the plain list of its entries.
 use Prim.Native.Nat.{ℕ, suc, _+_, _*_, _^_, _<_, _≤_, min}
 use mathlib.Core.Path.{_≡_}
 use mathlib.Core.Logic.{_≢_}
@@ -55,40 +56,47 @@ smallest (e ∷ es) from to =
 abbrev pub Vacant : ℕ → List Entry → Type 0
 Vacant slot es = (e : Entry) → Mem e es → e .slot ≢ slot
 
--- each inner node is the smaller of the two nodes below it
-pub record SegmentTree (width : ℕ) (nodes : List ℕ) : Type 0 where
-  pub some : 1 ≤ width
+-- each inner node from `kept` on is the smaller of the two nodes below it; the nodes in front are not kept
+pub record SegmentTree (kept width : ℕ) (nodes : List ℕ) : Type 0 where
+  pub some : 1 ≤ kept
+  pub within : kept ≤ width
   pub room : 2 * width ≤ length nodes
-  pub inner : (n : ℕ) → 1 ≤ n → n < width → getD nodes n 0 ≡ min (getD nodes (2 * n) 0) (getD nodes (2 * n + 1) 0)
+  pub inner : (n : ℕ) → kept ≤ n → n < width → getD nodes n 0 ≡ min (getD nodes (2 * n) 0) (getD nodes (2 * n + 1) 0)
 
 -- the tree holds these entries, and the cells past it are untouched
-pub record Holding (width : ℕ) (es : List Entry) (old new : List ℕ) : Type 0 where
-  pub tree : SegmentTree width new
+pub record Holding (kept width : ℕ) (es : List Entry) (old new : List ℕ) : Type 0 where
+  pub tree : SegmentTree kept width new
   pub entries-are : entriesIn width new ≡ es
   pub past : drop (2 * width) new ≡ drop (2 * width) old
 
 -- every slot is empty
-abbrev pub Cleared : ℕ → List ℕ → List ℕ → Type 0
-Cleared width old new = Holding width [] old new
+abbrev pub Cleared : ℕ → ℕ → List ℕ → List ℕ → Type 0
+Cleared kept width old new = Holding kept width [] old new
 
 -- the place stands in the slot
-abbrev pub Inserted : ℕ → List ℕ → ℕ → ℕ → List ℕ → Type 0
-Inserted width old slot place new = Holding width (insertEntry slot place (entriesIn width old)) old new
+abbrev pub Inserted : ℕ → ℕ → List ℕ → ℕ → ℕ → List ℕ → Type 0
+Inserted kept width old slot place new = Holding kept width (insertEntry slot place (entriesIn width old)) old new
 
 -- no place stands in the slot
-abbrev pub Removed : ℕ → List ℕ → ℕ → List ℕ → Type 0
-Removed width old slot new = Holding width (removeEntry slot (entriesIn width old)) old new
+abbrev pub Removed : ℕ → ℕ → List ℕ → ℕ → List ℕ → Type 0
+Removed kept width old slot new = Holding kept width (removeEntry slot (entriesIn width old)) old new
+
+-- cells that are to be a tree
+pub record Clearable (kept width : ℕ) (nodes : List ℕ) : Type 0 where
+  pub some : 1 ≤ kept
+  pub within : kept ≤ width
+  pub room : 2 * width ≤ length nodes
 
 -- a place, not FFFF, is to be put into a slot that holds none
-pub record Insertable (width : ℕ) (nodes : List ℕ) (slot place : ℕ) : Type 0 where
-  pub tree : SegmentTree width nodes
+pub record Insertable (kept width : ℕ) (nodes : List ℕ) (slot place : ℕ) : Type 0 where
+  pub tree : SegmentTree kept width nodes
   pub inside : slot < width
   pub some-place : place < FFFF
   pub vacant : Vacant slot (entriesIn width nodes)
 
 -- the tree is to be searched up to the slot `to`
-pub record Searchable (levels width : ℕ) (nodes : List ℕ) (to : ℕ) : Type 0 where
-  pub tree : SegmentTree width nodes
+pub record Searchable (levels kept width : ℕ) (nodes : List ℕ) (to : ℕ) : Type 0 where
+  pub tree : SegmentTree kept width nodes
   pub power : width ≡ 2 ^ levels
   pub inside : to ≤ width
 

@@ -1,17 +1,16 @@
 -- From place to place: each way that a turn can end leaves the sweep at the next place, with the passes made.
-use Prim.Native.Nat.{ℕ, suc, _+_, _-_, _*_, _<_, _≤_}
-use mathlib.Core.Path.{_≡_, refl, sym, ap, _∙_}
-use mathlib.Core.Logic.{_⊎_, inl, inr, ⊎-elim, _≢_}
-use mathlib.Core.Bool.{Bool, true, false, true≢false, not, _&&_, _||_}
+use Prim.Native.Nat.{ℕ, suc, _+_, _*_, _<_, _≤_}
+use mathlib.Core.Path.{_≡_, refl, sym, _∙_}
+use mathlib.Core.Logic.{_≢_}
+use mathlib.Core.Bool.{Bool, true, false, true≢false}
 use mathlib.Core.Option.{none, some}
-use mathlib.Core.List.{List, [], _∷_, List·Memᴰ as Mem}
+use mathlib.Core.List.{List, [], _∷_}
 use native.Mathlib.Omega.{arith}
 use native.Mathlib.Nat.{add-zero}
 use native.Mathlib.Numerals.{add-one}
 use native.Mathlib.Decide.{ℕ-discrete}
-use lib.ListN.{length, getD, set, take, length-set}
+use lib.ListN.{length, getD, set, length-set}
 use lib.Seq.{getD-set-same, getD-set-other}
-use lib.Dec.{eqb, ltb}
 use borrow.Author.Tests.{eq-eqb, ne-eqb, le-ltb}
 use Rattle.model.specs.Lists.{find}
 use Rattle.model.specs.Tree.{FFFF}
@@ -21,7 +20,7 @@ use Rattle.matching.specs.Passes.{greedy-with, greedy-alone}
 use Rattle.schedule.specs.Schedule.{Schedule, toAt, dueAt, fits, visitsAt, visitsOf}
 use Rattle.schedule.specs.InWork.{slotPart, fromPart, toPart, reachedPart, duePart, matePart, openerPart, treePart, passOf}
 use Rattle.sweep_laws.specs.WorkCells.{FrontKept, front-both, front-less, front-set, treeIn, tree-set}
-use Rattle.sweep_laws.specs.Sweeping.{freeAt, remaining, Open, Cells, Sweeping, Made, Underway, Asking, paired, Mate, NoMate, Chosen, ReachedAt}
+use Rattle.sweep_laws.specs.Sweeping.{freeAt, remaining, Open, Sweeping, Made, Underway, Asking, paired, Chosen, ReachedAt}
 use Rattle.sweep_laws.specs.WaitingLaws.{waiting-as}
 use Rattle.sweep_laws.specs.Reaching.{free-kept, take-place}
 use Rattle.sweep_laws.specs.Asking.{asks-free, free-alone, mate-of-one, paired-other, free-paired}
@@ -69,13 +68,13 @@ unfolding visitsOf
 visits-two s i q = refl
 
 -- an opener is written where what was due is used up
-module _ (s : Schedule) (n width i next k v : ℕ) (work : List ℕ) (known : i < n) (early : k ≤ i) where
+module _ (s : Schedule) (n kept width i next k v : ℕ) (work : List ℕ) (known : i < n) (early : k ≤ i) where
   free-opener : (p : ℕ) → p < n → freeAt n (set work (openerPart * n + k) v) p ≡ freeAt n work p
   unfolding freeAt
   free-opener p h =
       rw (getD-set-other work (openerPart * n + k) (toPart * n + p) v 0 (λ e. omega arith), getD-set-other work (openerPart * n + k) (matePart * n + p) v 0 (λ e. omega arith)) refl
 
-  sweeping-opener : Sweeping s n width (suc i) next work → Sweeping s n width (suc i) next (set work (openerPart * n + k) v)
+  sweeping-opener : Sweeping s n kept width (suc i) next work → Sweeping s n kept width (suc i) next (set work (openerPart * n + k) v)
   sweeping-opener w =
       let few : length (s .reached) ≤ n = rw (← (w .setting .places-are)) (w .setting .sound .reached-length) in
       record {
@@ -94,15 +93,15 @@ module _ (s : Schedule) (n width i next k v : ℕ) (work : List ℕ) (known : i 
         behind = w .behind;
         ahead = w .ahead;
         waiting = rw (tree-set n work (openerPart * n + k) v (omega arith))
-            (waiting-as s n width (w .setting) (Open s n (suc i) next work) (Open s n (suc i) next (set work (openerPart * n + k) v)) (treeIn n work)
+            (waiting-as s n kept width (w .setting) (Open s n (suc i) next work) (Open s n (suc i) next (set work (openerPart * n + k) v)) (treeIn n work)
             (λ p h o. (o .0, free-opener p h ∙ o .1, o .2))
             (λ p h o. (o .0, sym (free-opener p h) ∙ o .1, o .2))
             (w .waiting));
       }
 
 -- a place that does not wait is passed over
-sweeping-past : (s : Schedule) (n width i next : ℕ) (work : List ℕ) → next ≡ dueAt s i → (Open s n i next work i → ⊥) → Sweeping s n width i next work → Sweeping s n width (suc i) next work
-sweeping-past s n width i next work next-is idle w =
+sweeping-past : (s : Schedule) (n kept width i next : ℕ) (work : List ℕ) → next ≡ dueAt s i → (Open s n i next work i → ⊥) → Sweeping s n kept width i next work → Sweeping s n kept width (suc i) next work
+sweeping-past s n kept width i next work next-is idle w =
     record {
       setting = w .setting;
       cells =
@@ -121,7 +120,7 @@ sweeping-past s n width i next work next-is idle w =
         | no e ↦ w .behind p (omega arith)
       ];
       ahead = λ p l h. w .ahead p (omega arith) h;
-      waiting = waiting-as s n width (w .setting) (Open s n i next work) (Open s n (suc i) next work) (treeIn n work)
+      waiting = waiting-as s n kept width (w .setting) (Open s n i next work) (Open s n (suc i) next work) (treeIn n work)
           (λ p h o. elim (ℕ-discrete p i) [
             | yes e ↦ absurd (idle (rw e at o))
             | no e ↦ (omega (arith, o .0), o .1, o .2)
@@ -132,12 +131,12 @@ sweeping-past s n width i next work next-is idle w =
 
 -- ---- a turn, once what is due is reached
 
-module _ (s : Schedule) (n level width i next passes pairs visits : ℕ) (work : List ℕ) (u : Underway s n level width i next passes pairs visits work) (known : i < n)
-    (due : ℕ) (work₁ : List ℕ) (r : ReachedAt n width i next work due work₁) where
-  abbrev reached : (due ≡ dueAt s i) × Sweeping s n width i due work₁
+module _ (s : Schedule) (n level kept width i next passes pairs visits : ℕ) (work : List ℕ) (u : Underway s n level kept width i next passes pairs visits work) (known : i < n)
+    (due : ℕ) (work₁ : List ℕ) (r : ReachedAt n kept width i next work due work₁) where
+  abbrev reached : (due ≡ dueAt s i) × Sweeping s n kept width i due work₁
   reached = r .reached s known (u .sweeping)
 
-  abbrev w : Sweeping s n width i due work₁
+  abbrev w : Sweeping s n kept width i due work₁
   w = reached .1
 
   room : treePart * n ≤ length work₁
@@ -171,23 +170,23 @@ module _ (s : Schedule) (n level width i next passes pairs visits : ℕ) (work :
           (less, front-both n work work₁ (opened work₁) less (front-set n work₁ (openerPart * n + passes) i (omega arith)))
 
       -- it is taken
-      pub turn-taken : (mate ≡ FFFF → ⊥) → Underway s n level width (i + 1) due passes pairs visits work₁
+      pub turn-taken : (mate ≡ FFFF → ⊥) → Underway s n level kept width (i + 1) due passes pairs visits work₁
       turn-taken other =
           let taken : freeAt n work₁ i ≡ false = unfold freeAt in rw (le-ltb 0 (getD work₁ (toPart * n + i) 0) quiet-cell, ne-eqb (getD work₁ (matePart * n + i) 0) FFFF (λ e. other (mate-is ∙ e))) refl in
           rw add-one
           (record {
-            sweeping = sweeping-past s n width i due work₁ (reached .0) (λ o. true≢false (sym (o .1) ∙ taken)) w;
+            sweeping = sweeping-past s n kept width i due work₁ (reached .0) (λ o. true≢false (sym (o .1) ∙ taken)) w;
             made = made-same s n i work₁ passes pairs visits m work₁ (λ k h. refl) (λ p h. refl) (suc i) (omega arith) (sym (remaining-taken n work₁ i known taken));
             levels-are = u .levels-are;
           })
 
       -- it runs alone
-      pub turn-alone : mate ≡ FFFF → Underway s n level width (i + 1) due (passes + 1) pairs visits (opened work₁)
+      pub turn-alone : mate ≡ FFFF → Underway s n level kept width (i + 1) due (passes + 1) pairs visits (opened work₁)
       turn-alone e =
           let free : freeAt n work₁ i ≡ true = unfold freeAt in rw (le-ltb 0 (getD work₁ (toPart * n + i) 0) quiet-cell, eq-eqb (getD work₁ (matePart * n + i) 0) FFFF (sym mate-is ∙ e)) refl in
           let quiet-at : toAt s i ≡ 0 = omega (arith, w .cells .to-cell i (omega arith) known free, quiet-cell) in
           let unwaiting : Open s n i due work₁ i → ⊥ = λ o. let t = take-place due (s .reached) (o .2) in omega (arith, quiet-at, rw (t .3) at (w .setting .sound .reached-asks (t .0) (t .2))) in
-          let same : remaining n (opened work₁) (suc i) ≡ remaining n work₁ (suc i) = remaining-same n work₁ (opened work₁) (suc i) (λ p l h. free-opener s n width i due passes i work₁ known early p h) in
+          let same : remaining n (opened work₁) (suc i) ≡ remaining n work₁ (suc i) = remaining-same n work₁ (opened work₁) (suc i) (λ p l h. free-opener s n kept width i due passes i work₁ known early p h) in
           let turn : greedy (fits s) (remaining n work₁ i) ≡ single i ∷ greedy (fits s) (remaining n (opened work₁) (suc i)) =
           rw (remaining-free n work₁ i known free, same) (greedy-alone (fits s) i (remaining n work₁ (suc i)) (find-never (fits s i) (remaining n work₁ (suc i)) (λ q. fits-none s i q quiet-at))) in
           let made : Made s n (i + 1) (opened work₁) (passes + 1) (pairs + 0) (visits + 0) = made-more s n i work₁ passes pairs visits m (opened work₁)
@@ -198,7 +197,7 @@ module _ (s : Schedule) (n level width i next passes pairs visits : ℕ) (work :
           (pass-alone n (opened work₁) i (getD-set-other work₁ (openerPart * n + passes) (matePart * n + i) i 0 (λ e. omega arith) ∙ sym mate-is ∙ e))
           turn (pairs-alone i) (omega arith) (sym (visits-none s i quiet-at) ∙ visits-alone s i) (omega arith) in
           record {
-            sweeping = rw add-one (sweeping-opener s n width i due passes i work₁ known early (sweeping-past s n width i due work₁ (reached .0) unwaiting w));
+            sweeping = rw add-one (sweeping-opener s n kept width i due passes i work₁ known early (sweeping-past s n kept width i due work₁ (reached .0) unwaiting w));
             made = rw (add-zero pairs, add-zero visits) at made;
             levels-are = u .levels-are;
           }
@@ -206,22 +205,22 @@ module _ (s : Schedule) (n level width i next passes pairs visits : ℕ) (work :
     -- ---- it asks
 
     module _ (some : 0 < to) where
-      pub turn-asking : Asking s n level width i due to work₁
+      pub turn-asking : Asking s n level kept width i due to work₁
       turn-asking =
           record { sweeping = w; inside = known; next-is = reached .0; to-is = to-is; asks = some; levels-are = u .levels-are }
 
       free-here : freeAt n work₁ i ≡ true
       free-here = asks-free n work₁ i (rw (← to-is) some)
 
-      module _ (q v : ℕ) (work₂ : List ℕ) (c : Chosen s n width i due work₁ q v work₂) where
-        next-sweeping : Sweeping s n width (i + 1) due (opened work₂)
-        next-sweeping = rw add-one (sweeping-opener s n width i due passes i work₂ known early (c .sweeping))
+      module _ (q v : ℕ) (work₂ : List ℕ) (c : Chosen s n kept width i due work₁ q v work₂) where
+        next-sweeping : Sweeping s n kept width (i + 1) due (opened work₂)
+        next-sweeping = rw add-one (sweeping-opener s n kept width i due passes i work₂ known early (c .sweeping))
 
         pub opener-room : openerPart * n + passes < length work₂
         opener-room = omega (arith, early, c .sweeping .cells .room)
 
         -- one pass more, where the passes made before place i stand still
-        turned : ((k : ℕ) → k < passes → getD work₂ (openerPart * n + k) 0 ≡ getD work₁ (openerPart * n + k) 0) → ((p : ℕ) → p < i → getD work₂ (matePart * n + p) 0 ≡ getD work₁ (matePart * n + p) 0) → (p : Pass) (a : ℕ) → passOf n (opened work₂) i ≡ p → greedy (fits s) (remaining n work₁ i) ≡ p ∷ greedy (fits s) (remaining n (opened work₂) (suc i)) → a ≡ pairCount p → a ≤ 1 → v ≡ visitsOf s p → Underway s n level width (i + 1) due (passes + 1) (pairs + a) (visits + v) (opened work₂)
+        turned : ((k : ℕ) → k < passes → getD work₂ (openerPart * n + k) 0 ≡ getD work₁ (openerPart * n + k) 0) → ((p : ℕ) → p < i → getD work₂ (matePart * n + p) 0 ≡ getD work₁ (matePart * n + p) 0) → (p : Pass) (a : ℕ) → passOf n (opened work₂) i ≡ p → greedy (fits s) (remaining n work₁ i) ≡ p ∷ greedy (fits s) (remaining n (opened work₂) (suc i)) → a ≡ pairCount p → a ≤ 1 → v ≡ visitsOf s p → Underway s n level kept width (i + 1) due (passes + 1) (pairs + a) (visits + v) (opened work₂)
         turned openers mates p a is turn a-is a-few v-is =
             record {
               sweeping = next-sweeping;
@@ -238,13 +237,13 @@ module _ (s : Schedule) (n level width i next passes pairs visits : ℕ) (work :
         mate-opened = getD-set-other work₂ (openerPart * n + passes) (matePart * n + i) i 0 (λ e. omega arith)
 
         -- it finds none
-        pub turn-unmatched : q ≡ FFFF → Underway s n level width (i + 1) due (passes + 1) pairs (visits + v) (opened work₂)
+        pub turn-unmatched : q ≡ FFFF → Underway s n level kept width (i + 1) due (passes + 1) pairs (visits + v) (opened work₂)
         turn-unmatched e =
             let o = c .none-found e in
             let keeps : (y : ℕ) → y < treePart * n → y ≢ matePart * n + i → getD work₂ y 0 ≡ getD work₁ y 0 = λ y h other. o .front .kept y h ∙ getD-set-other work₁ (matePart * n + i) y FFFF 0 other in
             let mate : getD work₂ (matePart * n + i) 0 ≡ FFFF = o .front .kept (matePart * n + i) (omega arith) ∙ getD-set-same work₁ (matePart * n + i) FFFF 0 (omega (arith, room)) in
             let same : remaining n (opened work₂) (suc i) ≡ remaining n work₁ (suc i) = remaining-same n work₁ (opened work₂) (suc i)
-            (λ p l h. free-opener s n width i due passes i work₂ known early p h ∙ free-kept n (set work₁ (matePart * n + i) FFFF) work₂ (o .front) p h ∙ free-alone n i work₁ FFFF p known h (λ e. omega arith)) in
+            (λ p l h. free-opener s n kept width i due passes i work₂ known early p h ∙ free-kept n (set work₁ (matePart * n + i) FFFF) work₂ (o .front) p h ∙ free-alone n i work₁ FFFF p known h (λ e. omega arith)) in
             rw add-zero at
             (turned
             (λ k h. keeps (openerPart * n + k) (omega (arith, early)) (λ e. omega arith))
@@ -255,7 +254,7 @@ module _ (s : Schedule) (n level width i next passes pairs visits : ℕ) (work :
             (pairs-alone i) (omega arith) (c .visits-are ∙ visits-alone s i))
 
         -- it finds a mate
-        pub turn-matched : (q ≡ FFFF → ⊥) → Underway s n level width (i + 1) due (passes + 1) (pairs + 1) (visits + v) (opened work₂)
+        pub turn-matched : (q ≡ FFFF → ⊥) → Underway s n level kept width (i + 1) due (passes + 1) (pairs + 1) (visits + v) (opened work₂)
         turn-matched other =
             let o = c .one-found other in
             let inside = o .inside in
@@ -264,7 +263,7 @@ module _ (s : Schedule) (n level width i next passes pairs visits : ℕ) (work :
             let keeps : (y : ℕ) → y < treePart * n → y ≢ matePart * n + i → y ≢ matePart * n + q → y ≢ toPart * n + q → getD work₂ y 0 ≡ getD work₁ y 0 = λ y h a b d. o .front .kept y h ∙ paired-other n i q work₁ known inside later room few y a b d in
             let mate : getD work₂ (matePart * n + i) 0 ≡ q = o .front .kept (matePart * n + i) (omega arith) ∙ mate-of-one n i q work₁ known inside later room few in
             let rest : remaining n (opened work₂) (suc i) ≡ without q (remaining n work₁ (suc i)) = remaining-without n work₁ (opened work₂) (suc i) q
-            (λ p l h. free-opener s n width i due passes i work₂ known early p h ∙ free-kept n (paired n i q work₁) work₂ (o .front) p h ∙ free-paired n i q work₁ known inside later room few p h (λ e. omega arith)) in
+            (λ p l h. free-opener s n kept width i due passes i work₂ known early p h ∙ free-kept n (paired n i q work₁) work₂ (o .front) p h ∙ free-paired n i q work₁ known inside later room few p h (λ e. omega arith)) in
             turned
             (λ k h. keeps (openerPart * n + k) (omega (arith, early)) (λ e. omega (arith, early)) (λ e. omega (arith, early)) (λ e. omega (arith, early)))
             (λ y h. keeps (matePart * n + y) (omega arith) (λ e. omega arith) (λ e. omega arith) (λ e. omega arith))

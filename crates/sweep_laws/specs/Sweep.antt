@@ -1,30 +1,29 @@
 -- A sweep from its first place to its last: it begins with the schedule that the work cells hold, and ends with the passes of the greedy rule.
-use Prim.Native.Nat.{ℕ, zero, suc, _+_, _-_, _*_, _<_, _≤_, _^_}
+use Prim.Native.Nat.{ℕ, _+_, _-_, _*_, _<_, _≤_, _^_}
 use mathlib.Core.Path.{_≡_, refl, sym, ap, _∙_}
-use mathlib.Core.Bool.{Bool, true, true≢false, _||_, or-true}
-use mathlib.Core.List.{List, [], _++_, map, List·Memᴰ as Mem, List·Memᴰ·not-nil as not-nil}
+use mathlib.Core.Bool.{true, true≢false, or-true}
+use mathlib.Core.List.{List, [], List·Memᴰ·not-nil as not-nil}
 use native.Mathlib.Omega.{arith}
 use native.Mathlib.Decide.{decLt}
 use native.Mathlib.Nat.{sub-zero}
 use lib.ListN.{length, getD, take, drop, length-take, length-drop, length-map}
 use lib.Seq.{length-take-le, getD-take, getD-drop, ext-getD}
 use lib.Dec.{ltb}
-use lib.Pow.{pow-pos}
 use borrow.Rule.Slice.PartMut.{putMid}
 use borrow.Author.Tests.{eq-eqb}
-use Rattle.model.specs.Lists.{numbersFrom, numbers, lastD, select, total}
+use Rattle.model.specs.Lists.{numbersFrom, numbers, lastD, total}
 use Rattle.model.specs.Tree.{FFFF}
-use Rattle.model.specs.Greedy.{Pass, greedy}
+use Rattle.model.specs.Greedy.{Pass}
 use Rattle.model.specs.Visits.{levels}
 use Rattle.model.specs.Planning.{pairCount}
 use Rattle.tree_laws.specs.Lists.{mem-all, select-all, range-mem}
-use Rattle.tree_laws.specs.Numbers.{numbers-length, numbers-mem}
-use Rattle.schedule.specs.Schedule.{Schedule, places, slotAt, fromAt, toAt, dueAt, fits, passesByPlace, totalVisits, visitsOf}
-use Rattle.schedule.specs.InWork.{slotPart, fromPart, toPart, reachedPart, duePart, matePart, openerPart, treePart, part, scheduleIn, passAt, Swept}
-use Rattle.sweep_laws.specs.SegmentTree.{Cleared}
+use Rattle.tree_laws.specs.Numbers.{numbers-length}
+use Rattle.schedule.specs.Schedule.{Schedule, places, slotAt, fromAt, toAt, dueAt, passesByPlace, totalVisits, visitsOf}
+use Rattle.schedule.specs.InWork.{slotPart, fromPart, toPart, reachedPart, duePart, matePart, treePart, part, scheduleIn, passAt, Swept}
+use Rattle.sweep_laws.specs.SegmentTree.{Clearable, Cleared}
 use Rattle.sweep_laws.specs.Levels.{ShapeFor}
 use Rattle.sweep_laws.specs.WorkCells.{FrontKept, front-refl, front-both, front-less, mid-tail, treeIn, TreeChanged, tree-back}
-use Rattle.sweep_laws.specs.Sweeping.{Sweepable, freeAt, remaining, Open, Setting, Cells, Sweeping, Made, Underway, SteppedFrom}
+use Rattle.sweep_laws.specs.Sweeping.{Sweepable, freeAt, remaining, Open, Setting, Made, Underway, SteppedFrom}
 use Rattle.sweep_laws.specs.WaitingLaws.{waiting-none}
 use Rattle.sweep_laws.specs.Asking.{asks-free}
 use Rattle.sweep_laws.specs.MadeLaws.{made-all}
@@ -44,7 +43,7 @@ visits-total s ps e = ap (total (visitsOf s)) (sym e)
 
 -- ---- the first place
 
-module _ (n level width : ℕ) (work work₁ : List ℕ) (b : Sweepable n work) (shape : ShapeFor n level width) (c : TreeChanged n width [] work work₁) where
+module _ (n level kept width : ℕ) (work work₁ : List ℕ) (b : Sweepable n work) (shape : ShapeFor n level kept width) (c : TreeChanged n kept width [] work work₁) where
   abbrev s : Schedule
   s = scheduleIn n work
 
@@ -55,7 +54,7 @@ module _ (n level width : ℕ) (work work₁ : List ℕ) (b : Sweepable n work) 
   power : width ≡ 2 ^ levels n
   power = shape .width-is ∙ ap (λ (k : ℕ). 2 ^ k) (shape .levels-are)
 
-  setting : Setting s n width
+  setting : Setting s n kept width
   setting = record { few = b .few; places-are = places-are; sound = b .sound; width-is = power }
 
   few-reached : length (s .reached) ≤ n
@@ -112,7 +111,7 @@ module _ (n level width : ℕ) (work work₁ : List ℕ) (b : Sweepable n work) 
         few-visits = omega arith;
       }
 
-  pub sweep-begins : Underway s n level width 0 0 0 0 0 work₁
+  pub sweep-begins : Underway s n level kept width 0 0 0 0 0 work₁
   sweep-begins =
       record {
         sweeping =
@@ -131,7 +130,7 @@ module _ (n level width : ℕ) (work work₁ : List ℕ) (b : Sweepable n work) 
               next-inside = omega arith;
               behind = λ p h. absurd (omega arith);
               ahead = λ p l h. omega arith;
-              waiting = waiting-none s n width setting (Open s n 0 0 work₁) work work₁ (λ q h o. not-nil (o .2)) c;
+              waiting = waiting-none s n kept width setting (Open s n 0 0 work₁) work work₁ (λ q h o. not-nil (o .2)) c;
             };
         made = made;
         levels-are = shape .levels-are;
@@ -139,8 +138,8 @@ module _ (n level width : ℕ) (work work₁ : List ℕ) (b : Sweepable n work) 
 
 -- ---- the last place
 
-pub sweep-ends : (n level width i next passes pairs visits : ℕ) (work new : List ℕ) → n ≤ length work → i ≡ n → Underway (scheduleIn n work) n level width i next passes pairs visits new → FrontKept n work new → Swept n work pairs visits new
-sweep-ends n level width i next passes pairs visits work new room e u f =
+pub sweep-ends : (n level kept width i next passes pairs visits : ℕ) (work new : List ℕ) → n ≤ length work → i ≡ n → Underway (scheduleIn n work) n level kept width i next passes pairs visits new → FrontKept n work new → Swept n work pairs visits new
+sweep-ends n level kept width i next passes pairs visits work new room e u f =
     let m : Made (scheduleIn n work) n n new passes pairs visits = rw e at (u .made) in
     let all : passesByPlace (scheduleIn n work) ≡ m .made = made-all (scheduleIn n work) n new passes pairs visits m in
     let count : length (passesByPlace (scheduleIn n work)) ≡ passes = ap length (all ∙ sym (m .stands)) ∙ length-map (numbers passes) (passAt n new) ∙ numbers-length passes in
@@ -156,16 +155,16 @@ sweep-ends n level width i next passes pairs visits work new room e u f =
 -- ---- from the first place to the last
 
 -- the sweep has come from the cells `old`, with the tree cleared, to place i
-pub record SweptTo (n level width : ℕ) (old : List ℕ) (i next passes pairs visits : ℕ) (work : List ℕ) : Type 0 where
+pub record SweptTo (n level kept width : ℕ) (old : List ℕ) (i next passes pairs visits : ℕ) (work : List ℕ) : Type 0 where
   pub within : i ≤ n
   pub order : FrontKept n old work
-  pub underway : (s : Schedule) → Underway s n level width 0 0 0 0 0 old → Underway s n level width i next passes pairs visits work
+  pub underway : (s : Schedule) → Underway s n level kept width 0 0 0 0 0 old → Underway s n level kept width i next passes pairs visits work
 
-pub swept-first : (n level width : ℕ) (old : List ℕ) → SweptTo n level width old 0 0 0 0 0 old
-swept-first n level width old = record { within = omega arith; order = front-refl n old; underway = λ s u. u }
+pub swept-first : (n level kept width : ℕ) (old : List ℕ) → SweptTo n level kept width old 0 0 0 0 0 old
+swept-first n level kept width old = record { within = omega arith; order = front-refl n old; underway = λ s u. u }
 
-pub swept-next : (n level width : ℕ) (old : List ℕ) (i next passes pairs visits : ℕ) (work : List ℕ) (next′ passes′ pairs′ visits′ : ℕ) (work′ : List ℕ) → i < n → SteppedFrom n level width i next passes pairs visits work next′ passes′ pairs′ visits′ work′ → SweptTo n level width old i next passes pairs visits work → SweptTo n level width old (i + 1) next′ passes′ pairs′ visits′ work′
-swept-next n level width old i next passes pairs visits work next′ passes′ pairs′ visits′ work′ h t w =
+pub swept-next : (n level kept width : ℕ) (old : List ℕ) (i next passes pairs visits : ℕ) (work : List ℕ) (next′ passes′ pairs′ visits′ : ℕ) (work′ : List ℕ) → i < n → SteppedFrom n level kept width i next passes pairs visits work next′ passes′ pairs′ visits′ work′ → SweptTo n level kept width old i next passes pairs visits work → SweptTo n level kept width old (i + 1) next′ passes′ pairs′ visits′ work′
+swept-next n level kept width old i next passes pairs visits work next′ passes′ pairs′ visits′ work′ h t w =
     record {
       within = omega arith;
       order = front-both n old work work′ (w .order) (t .order);
@@ -173,31 +172,33 @@ swept-next n level width old i next passes pairs visits work next′ passes′ p
     }
 
 -- the tree is lent to be cleared
-module _ (n level width : ℕ) (work : List ℕ) (b : Sweepable n work) (shape : ShapeFor n level width) where
+module _ (n level kept width : ℕ) (work : List ℕ) (b : Sweepable n work) (shape : ShapeFor n level kept width) where
   width-is : width ≡ 2 ^ levels n
   width-is = shape .width-is ∙ ap (λ (k : ℕ). 2 ^ k) (shape .levels-are)
 
   pub parts-room : treePart * n ≤ length work
   parts-room = omega (arith, b .room)
 
-  pub width-some : 1 ≤ width
-  width-some = rw width-is (pow-pos (levels n))
+  pub tree-clearable : Clearable kept width (take (length work - treePart * n) (treeIn n work))
+  tree-clearable =
+      record {
+        some = shape .kept-some;
+        within = shape .kept-within;
+        room = rw (mid-tail (treePart * n) work, length-drop (treePart * n) work, width-is) (omega (arith, b .room));
+      }
 
-  pub tree-room : 2 * width ≤ length (take (length work - treePart * n) (treeIn n work))
-  tree-room = rw (mid-tail (treePart * n) work, length-drop (treePart * n) work, width-is) (omega (arith, b .room))
-
-  module _ (nodes : List ℕ) (same : length nodes ≡ length (take (length work - treePart * n) (treeIn n work))) (h : Cleared width (take (length work - treePart * n) (treeIn n work)) nodes) where
+  module _ (nodes : List ℕ) (same : length nodes ≡ length (take (length work - treePart * n) (treeIn n work))) (h : Cleared kept width (take (length work - treePart * n) (treeIn n work)) nodes) where
     abbrev cleared : List ℕ
     cleared = putMid (treePart * n) (length work - treePart * n) work nodes
 
-    tree-cleared : TreeChanged n width [] work cleared
-    tree-cleared = tree-back n width (λ (l : List ℕ). []) work nodes parts-room same h
+    tree-cleared : TreeChanged n kept width [] work cleared
+    tree-cleared = tree-back n kept width (λ (l : List ℕ). []) work nodes parts-room same h
 
-    pub swept-underway : (i next passes pairs visits : ℕ) (new : List ℕ) → SweptTo n level width cleared i next passes pairs visits new → Underway (scheduleIn n work) n level width i next passes pairs visits new
-    swept-underway i next passes pairs visits new w = w .underway (scheduleIn n work) (sweep-begins n level width work cleared b shape tree-cleared)
+    pub swept-underway : (i next passes pairs visits : ℕ) (new : List ℕ) → SweptTo n level kept width cleared i next passes pairs visits new → Underway (scheduleIn n work) n level kept width i next passes pairs visits new
+    swept-underway i next passes pairs visits new w = w .underway (scheduleIn n work) (sweep-begins n level kept width work cleared b shape tree-cleared)
 
-    pub swept-all : (i next passes pairs visits : ℕ) (new : List ℕ) → n ≤ i → SweptTo n level width cleared i next passes pairs visits new → Swept n work pairs visits new
+    pub swept-all : (i next passes pairs visits : ℕ) (new : List ℕ) → n ≤ i → SweptTo n level kept width cleared i next passes pairs visits new → Swept n work pairs visits new
     swept-all i next passes pairs visits new h w =
-        sweep-ends n level width i next passes pairs visits work new (omega (arith, b .room)) (omega (arith, w .within))
+        sweep-ends n level kept width i next passes pairs visits work new (omega (arith, b .room)) (omega (arith, w .within))
         (swept-underway i next passes pairs visits new w)
         (front-both n work cleared new (front-less n (treePart * n) work cleared (omega arith) (tree-cleared .front)) (w .order))

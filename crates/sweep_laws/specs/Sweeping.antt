@@ -41,8 +41,8 @@ module _ (s : Schedule) (n : ℕ) where
     pub waiting : waits (e .place)
 
   -- the tree holds the places that wait, and no others
-  pub record Waiting (width : ℕ) (waits : ℕ → Type 0) (nodes : List ℕ) : Type 0 where
-    pub tree : SegmentTree width nodes
+  pub record Waiting (kept width : ℕ) (waits : ℕ → Type 0) (nodes : List ℕ) : Type 0 where
+    pub tree : SegmentTree kept width nodes
     pub held : (q : ℕ) → q < n → waits q → Mem {A = Entry} (record { slot = slotAt s q; place = q }) (entriesIn width nodes)
     pub only : (e : Entry) → Mem e (entriesIn width nodes) → Stands waits e
 
@@ -53,7 +53,7 @@ module _ (s : Schedule) (n : ℕ) where
 -- ---- the cells
 
 -- a schedule of n places, and the width of their tree
-pub record Setting (s : Schedule) (n width : ℕ) : Type 0 where
+pub record Setting (s : Schedule) (n kept width : ℕ) : Type 0 where
   pub few : n ≤ jobLimit
   pub places-are : places s ≡ n
   pub sound : Sound s
@@ -69,14 +69,14 @@ pub record Cells (s : Schedule) (n width i : ℕ) (work : List ℕ) : Type 0 whe
   pub to-cell : (p : ℕ) → i ≤ p → p < n → freeAt n work p ≡ true → getD work (toPart * n + p) 0 ≡ toAt s p
 
 -- the sweep at place i, `next` of the places that can be found being reached
-pub record Sweeping (s : Schedule) (n width i next : ℕ) (work : List ℕ) : Type 0 where
-  pub setting : Setting s n width
+pub record Sweeping (s : Schedule) (n kept width i next : ℕ) (work : List ℕ) : Type 0 where
+  pub setting : Setting s n kept width
   pub cells : Cells s n width i work
   pub taken-reached : (q : ℕ) → i ≤ q → q < n → freeAt n work q ≡ false → Mem q (take next (s .reached))
   pub next-inside : next ≤ length (s .reached)
   pub behind : (p : ℕ) → p < i → dueAt s p ≤ next
   pub ahead : (p : ℕ) → i ≤ p → p < n → next ≤ dueAt s p
-  pub waiting : Waiting s n width (Open s n i next work) (treeIn n work)
+  pub waiting : Waiting s n kept width (Open s n i next work) (treeIn n work)
 
 -- the passes made before place i stand in the cells, and the greedy rule makes the others of what remains
 pub record Made (s : Schedule) (n i : ℕ) (work : List ℕ) (passes pairs visits : ℕ) : Type 0 where
@@ -93,14 +93,14 @@ pub record Made (s : Schedule) (n i : ℕ) (work : List ℕ) (passes pairs visit
 -- ---- what the steps promise one another
 
 -- the sweep before the turn of place i
-pub record Underway (s : Schedule) (n level width i next passes pairs visits : ℕ) (work : List ℕ) : Type 0 where
-  pub sweeping : Sweeping s n width i next work
+pub record Underway (s : Schedule) (n level kept width i next passes pairs visits : ℕ) (work : List ℕ) : Type 0 where
+  pub sweeping : Sweeping s n kept width i next work
   pub made : Made s n i work passes pairs visits
   pub levels-are : level ≡ levels n
 
 -- place i is free and asks for a span that ends at `to`, with all that is due at its turn reached
-pub record Asking (s : Schedule) (n level width i next to : ℕ) (work : List ℕ) : Type 0 where
-  pub sweeping : Sweeping s n width i next work
+pub record Asking (s : Schedule) (n level kept width i next to : ℕ) (work : List ℕ) : Type 0 where
+  pub sweeping : Sweeping s n kept width i next work
   pub inside : i < n
   pub next-is : next ≡ dueAt s i
   pub to-is : to ≡ getD work (toPart * n + i) 0
@@ -125,24 +125,24 @@ pub record NoMate (s : Schedule) (n i : ℕ) (old new : List ℕ) : Type 0 where
   pub front : FrontKept (treePart * n) (set old (matePart * n + i) FFFF) new
 
 -- the greedy rule's choice for place i, FFFF for none, with the visits of the lookup
-pub record Chosen (s : Schedule) (n width i next : ℕ) (old : List ℕ) (q visits : ℕ) (new : List ℕ) : Type 0 where
-  pub sweeping : Sweeping s n width (suc i) next new
+pub record Chosen (s : Schedule) (n kept width i next : ℕ) (old : List ℕ) (q visits : ℕ) (new : List ℕ) : Type 0 where
+  pub sweeping : Sweeping s n kept width (suc i) next new
   pub visits-are : visits ≡ visitsAt s i
   pub few-visits : visits ≤ 49
   pub none-found : q ≡ FFFF → NoMate s n i old new
   pub one-found : (q ≡ FFFF → ⊥) → Mate s n i q old new
 
 -- a place that is to come into the tree
-pub record PlaceInsertable (n width p : ℕ) (work : List ℕ) : Type 0 where
+pub record PlaceInsertable (n kept width p : ℕ) (work : List ℕ) : Type 0 where
   pub inside : p < n
   pub room : treePart * n ≤ length work
-  pub insertable : Insertable width (treeIn n work) (getD work (slotPart * n + p) 0) p
+  pub insertable : Insertable kept width (treeIn n work) (getD work (slotPart * n + p) 0) p
 
 -- a place that is to leave the tree
-pub record PlaceRemovable (n width p : ℕ) (work : List ℕ) : Type 0 where
+pub record PlaceRemovable (n kept width p : ℕ) (work : List ℕ) : Type 0 where
   pub inside : p < n
   pub room : treePart * n ≤ length work
-  pub tree : SegmentTree width (treeIn n work)
+  pub tree : SegmentTree kept width (treeIn n work)
   pub slot-inside : getD work (slotPart * n + p) 0 < width
 
 -- two places that are to be paired
@@ -152,11 +152,11 @@ pub record Pairable (n i q : ℕ) (work : List ℕ) : Type 0 where
   pub room : treePart * n ≤ length work
 
 -- what is due at place i is reached, `due` in all
-pub record ReachedAt (n width i next : ℕ) (old : List ℕ) (due : ℕ) (new : List ℕ) : Type 0 where
+pub record ReachedAt (n kept width i next : ℕ) (old : List ℕ) (due : ℕ) (new : List ℕ) : Type 0 where
   pub front : FrontKept (treePart * n) old new
-  pub reached : (s : Schedule) → i < n → Sweeping s n width i next old → (due ≡ dueAt s i) × Sweeping s n width i due new
+  pub reached : (s : Schedule) → i < n → Sweeping s n kept width i next old → (due ≡ dueAt s i) × Sweeping s n kept width i due new
 
 -- place i has had its turn
-pub record SteppedFrom (n level width i next passes pairs visits : ℕ) (old : List ℕ) (next′ passes′ pairs′ visits′ : ℕ) (new : List ℕ) : Type 0 where
+pub record SteppedFrom (n level kept width i next passes pairs visits : ℕ) (old : List ℕ) (next′ passes′ pairs′ visits′ : ℕ) (new : List ℕ) : Type 0 where
   pub order : FrontKept n old new
-  pub stepped : (s : Schedule) → Underway s n level width i next passes pairs visits old → Underway s n level width (i + 1) next′ passes′ pairs′ visits′ new
+  pub stepped : (s : Schedule) → Underway s n level kept width i next passes pairs visits old → Underway s n level kept width (i + 1) next′ passes′ pairs′ visits′ new

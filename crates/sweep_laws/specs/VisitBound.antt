@@ -1,4 +1,4 @@
--- How many cells a lookup visits at most (document 01, "The shelf and its cells"): 4k + 1 of a shelf of 2 ^ k slots, and 4k - 1 for k ≥ 1.
+-- How many cells a lookup visits at most (document 01, "The shelf and its cells"): 4k + 1 of a tree of 2 ^ k slots, and 4k - 1 for k ≥ 1.
 -- A span that begins at or before a cell's start, or ends at or after its end, costs at most 2k + 1 visits at and under that cell.
 use Prim.Native.Nat.{ℕ, zero, suc, _+_, _-_, _*_, _^_, _<_, _≤_}
 use mathlib.Core.Path.{_≡_, refl}
@@ -102,7 +102,7 @@ topmost k from to n one h = go (leb to from)
     go true = one
     go false = h
 
--- the sharper bound, for a shelf of at least two slots
+-- the sharper bound, for a tree of at least two slots
 pub visits-sharp : (k from to : ℕ) → 1 ≤ k → visits k from to ≤ 4 * k - 1
 visits-sharp zero from to some = absurd (omega arith)
 visits-sharp (suc k) from to some = topmost (suc k) from to (4 * suc k - 1) (omega arith) (omega (arith, cell-bound k 0 from to))

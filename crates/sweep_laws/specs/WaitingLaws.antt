@@ -1,23 +1,20 @@
 -- What an insertion and a removal make of the places that wait in the segment tree.
-use Prim.Native.Nat.{ℕ, _+_, _-_, _*_, _<_, _≤_}
+use Prim.Native.Nat.{ℕ, _<_}
 use mathlib.Core.Path.{_≡_, refl, sym, ap, _∙_}
 use mathlib.Core.Logic.{_⊎_, inl, inr, ⊎-elim, _≢_}
-use mathlib.Core.List.{List, [], _∷_, List·Memᴰ as Mem, List·Memᴰ·not-nil as not-nil}
-use native.Mathlib.Omega.{arith}
-use native.Mathlib.Decide.{ℕ-discrete}
-use lib.ListN.{length, getD, take}
+use mathlib.Core.List.{List, [], List·Memᴰ as Mem, List·Memᴰ·not-nil as not-nil}
 use Rattle.schedule.specs.Schedule.{Schedule, slotAt}
-use Rattle.sweep_laws.specs.SegmentTree.{Entry, entriesIn, insertEntry, removeEntry, Vacant}
+use Rattle.sweep_laws.specs.SegmentTree.{entriesIn, insertEntry, removeEntry, Vacant}
 use Rattle.sweep_laws.specs.EntryLaws.{insert-mem, mem-inserted, mem-insert, remove-mem, mem-remove}
 use Rattle.sweep_laws.specs.WorkCells.{treeIn, TreeChanged}
 use Rattle.sweep_laws.specs.Sweeping.{Stands, Waiting, Setting}
 
-module _ (s : Schedule) (n width : ℕ) (t : Setting s n width) where
+module _ (s : Schedule) (n kept width : ℕ) (t : Setting s n kept width) where
   slot-once : (p q : ℕ) → p < n → q < n → slotAt s p ≡ slotAt s q → p ≡ q
   slot-once p q a b e = t .sound .slot-once p q (rw (t .places-are) a) (rw (t .places-are) b) e
 
   -- the same places by another test
-  pub waiting-as : (waits waits′ : ℕ → Type 0) (nodes : List ℕ) → ((q : ℕ) → q < n → waits q → waits′ q) → ((q : ℕ) → q < n → waits′ q → waits q) → Waiting s n width waits nodes → Waiting s n width waits′ nodes
+  pub waiting-as : (waits waits′ : ℕ → Type 0) (nodes : List ℕ) → ((q : ℕ) → q < n → waits q → waits′ q) → ((q : ℕ) → q < n → waits′ q → waits q) → Waiting s n kept width waits nodes → Waiting s n kept width waits′ nodes
   waiting-as waits waits′ nodes f g w =
       record {
         tree = w .tree;
@@ -26,14 +23,14 @@ module _ (s : Schedule) (n width : ℕ) (t : Setting s n width) where
       }
 
   -- the slot of a place that does not wait is vacant
-  pub waiting-vacant : (waits : ℕ → Type 0) (nodes : List ℕ) (q : ℕ) → q < n → (waits q → ⊥) → Waiting s n width waits nodes → Vacant (slotAt s q) (entriesIn width nodes)
+  pub waiting-vacant : (waits : ℕ → Type 0) (nodes : List ℕ) (q : ℕ) → q < n → (waits q → ⊥) → Waiting s n kept width waits nodes → Vacant (slotAt s q) (entriesIn width nodes)
   waiting-vacant waits nodes q h none w e m at =
       let o = w .only e m in
       let same : e .place ≡ q = slot-once (e .place) q (o .inside) h (sym (o .at) ∙ at) in
       none (rw same at (o .waiting))
 
   -- no place waits in an empty tree
-  pub waiting-none : (waits : ℕ → Type 0) (work work′ : List ℕ) → ((q : ℕ) → q < n → waits q → ⊥) → TreeChanged n width [] work work′ → Waiting s n width waits (treeIn n work′)
+  pub waiting-none : (waits : ℕ → Type 0) (work work′ : List ℕ) → ((q : ℕ) → q < n → waits q → ⊥) → TreeChanged n kept width [] work work′ → Waiting s n kept width waits (treeIn n work′)
   waiting-none waits work work′ none c =
       record {
         tree = c .tree;
@@ -41,9 +38,9 @@ module _ (s : Schedule) (n width : ℕ) (t : Setting s n width) where
         only = λ e m. absurd (not-nil (rw (c .entries-are) at m));
       }
 
-  module _ (waits : ℕ → Type 0) (work work′ : List ℕ) (q : ℕ) (h : q < n) (w : Waiting s n width waits (treeIn n work)) where
+  module _ (waits : ℕ → Type 0) (work work′ : List ℕ) (q : ℕ) (h : q < n) (w : Waiting s n kept width waits (treeIn n work)) where
     -- one more waits
-    pub waiting-insert : TreeChanged n width (insertEntry (slotAt s q) q (entriesIn width (treeIn n work))) work work′ → Waiting s n width (λ (p : ℕ). waits p ⊎ (p ≡ q)) (treeIn n work′)
+    pub waiting-insert : TreeChanged n kept width (insertEntry (slotAt s q) q (entriesIn width (treeIn n work))) work work′ → Waiting s n kept width (λ (p : ℕ). waits p ⊎ (p ≡ q)) (treeIn n work′)
     waiting-insert c =
         record {
           tree = c .tree;
@@ -61,7 +58,7 @@ module _ (s : Schedule) (n width : ℕ) (t : Setting s n width) where
         first = record { inside = h; at = refl; waiting = inr refl }
 
     -- one waits no longer
-    pub waiting-remove : TreeChanged n width (removeEntry (slotAt s q) (entriesIn width (treeIn n work))) work work′ → Waiting s n width (λ (p : ℕ). waits p × (p ≢ q)) (treeIn n work′)
+    pub waiting-remove : TreeChanged n kept width (removeEntry (slotAt s q) (entriesIn width (treeIn n work))) work work′ → Waiting s n kept width (λ (p : ℕ). waits p × (p ≢ q)) (treeIn n work′)
     waiting-remove c =
         record {
           tree = c .tree;

@@ -1,7 +1,6 @@
 -- Laws of the work cells: what stays in front of a part that is changed, and the segment tree at their end, lent and come back.
 use Prim.Native.Nat.{ℕ, _+_, _-_, _*_, _<_, _≤_}
 use mathlib.Core.Path.{_≡_, refl, sym, ap, _∙_}
-use mathlib.Core.Logic.{_≢_}
 use mathlib.Core.List.{List, _++_, append-nil}
 use native.Mathlib.Omega.{arith}
 use native.Mathlib.Decide.{ℕ-discrete}
@@ -68,13 +67,13 @@ abbrev pub treeIn : ℕ → List ℕ → List ℕ
 treeIn n work = drop (treePart * n) work
 
 -- the tree has come to hold these entries, and nothing in front of it has changed
-pub record TreeChanged (n width : ℕ) (es : List Entry) (old new : List ℕ) : Type 0 where
+pub record TreeChanged (n kept width : ℕ) (es : List Entry) (old new : List ℕ) : Type 0 where
   pub front : FrontKept (treePart * n) old new
-  pub tree : SegmentTree width (treeIn n new)
+  pub tree : SegmentTree kept width (treeIn n new)
   pub entries-are : entriesIn width (treeIn n new) ≡ es
 
-pub tree-back : (n width : ℕ) (f : List ℕ → List Entry) (work nodes : List ℕ) → treePart * n ≤ length work → length nodes ≡ length (take (length work - treePart * n) (treeIn n work)) → Holding width (f (take (length work - treePart * n) (treeIn n work))) (take (length work - treePart * n) (treeIn n work)) nodes → TreeChanged n width (f (treeIn n work)) work (putMid (treePart * n) (length work - treePart * n) work nodes)
-tree-back n width f work nodes within same h =
+pub tree-back : (n kept width : ℕ) (f : List ℕ → List Entry) (work nodes : List ℕ) → treePart * n ≤ length work → length nodes ≡ length (take (length work - treePart * n) (treeIn n work)) → Holding kept width (f (take (length work - treePart * n) (treeIn n work))) (take (length work - treePart * n) (treeIn n work)) nodes → TreeChanged n kept width (f (treeIn n work)) work (putMid (treePart * n) (length work - treePart * n) work nodes)
+tree-back n kept width f work nodes within same h =
     let long : length nodes ≡ length work - treePart * n = same ∙ ap (λ (l : List ℕ). length l) (mid-tail (treePart * n) work) ∙ length-drop (treePart * n) work in
     let back : treeIn n (putMid (treePart * n) (length work - treePart * n) work nodes) ≡ nodes = tail-back (treePart * n) work nodes within long in
     record {
@@ -83,14 +82,14 @@ tree-back n width f work nodes within same h =
       entries-are = ap (entriesIn width) back ∙ h .entries-are ∙ ap f (mid-tail (treePart * n) work);
     }
 
-module _ (n width p : ℕ) (work nodes : List ℕ) (slot : ℕ) (slot-is : slot ≡ getD work (slotPart * n + p) 0) (room : treePart * n ≤ length work) (same : length nodes ≡ length (take (length work - treePart * n) (treeIn n work))) where
+module _ (n kept width p : ℕ) (work nodes : List ℕ) (slot : ℕ) (slot-is : slot ≡ getD work (slotPart * n + p) 0) (room : treePart * n ≤ length work) (same : length nodes ≡ length (take (length work - treePart * n) (treeIn n work))) where
   -- a place has come into it
-  pub place-inserted : Inserted width (take (length work - treePart * n) (treeIn n work)) slot p nodes → TreeChanged n width (insertEntry (getD work (slotPart * n + p) 0) p (entriesIn width (treeIn n work))) work (putMid (treePart * n) (length work - treePart * n) work nodes)
-  place-inserted h = tree-back n width (λ (l : List ℕ). insertEntry (getD work (slotPart * n + p) 0) p (entriesIn width l)) work nodes room same (rw slot-is at h)
+  pub place-inserted : Inserted kept width (take (length work - treePart * n) (treeIn n work)) slot p nodes → TreeChanged n kept width (insertEntry (getD work (slotPart * n + p) 0) p (entriesIn width (treeIn n work))) work (putMid (treePart * n) (length work - treePart * n) work nodes)
+  place-inserted h = tree-back n kept width (λ (l : List ℕ). insertEntry (getD work (slotPart * n + p) 0) p (entriesIn width l)) work nodes room same (rw slot-is at h)
 
   -- a place has left it
-  pub place-removed : Removed width (take (length work - treePart * n) (treeIn n work)) slot nodes → TreeChanged n width (removeEntry (getD work (slotPart * n + p) 0) (entriesIn width (treeIn n work))) work (putMid (treePart * n) (length work - treePart * n) work nodes)
-  place-removed h = tree-back n width (λ (l : List ℕ). removeEntry (getD work (slotPart * n + p) 0) (entriesIn width l)) work nodes room same (rw slot-is at h)
+  pub place-removed : Removed kept width (take (length work - treePart * n) (treeIn n work)) slot nodes → TreeChanged n kept width (removeEntry (getD work (slotPart * n + p) 0) (entriesIn width (treeIn n work))) work (putMid (treePart * n) (length work - treePart * n) work nodes)
+  place-removed h = tree-back n kept width (λ (l : List ℕ). removeEntry (getD work (slotPart * n + p) 0) (entriesIn width l)) work nodes room same (rw slot-is at h)
 
 -- a store in front of the tree leaves it alone
 pub tree-set : (n : ℕ) (work : List ℕ) (y v : ℕ) → y < treePart * n → treeIn n (set work y v) ≡ treeIn n work

@@ -1,6 +1,13 @@
-//! How long the whole run takes, from the bytes of a table to the bytes of its plan: the proved
-//! one, the one written by hand with the same sweep, and the quadratic reference. It prints and
-//! judges no time, but stops if the three do not write the same.
+//! How long the whole run takes, from the bytes of a table to the bytes of its plan: the proved one,
+//! the one written by hand with the same method, and the quadratic reference. All three run in this
+//! process on the same tables, each table the same in every process. They take turns, and the least
+//! time of many calls counts, so that what else the machine does weighs little.
+//!
+//! One call is timed from its start to its end, with all that it does itself: reading, planning,
+//! printing, and zeros over the rest of the output. Input and output are lent, the same to all calls
+//! on a table. Nothing is cleared between two calls, neither the output nor a cache.
+//!
+//! It prints and judges no time, but stops if the three do not write the same.
 
 use std::time::{Duration, Instant};
 use tests::made::tables::{table_of_shape, Reach, Shape, Size};
@@ -9,17 +16,25 @@ use tests::reference::table::table_lines;
 use tests::reference::{JOB_LIMIT, LAYOUT_LIMIT, OUTPUT_BYTES};
 use tests::{by_hand, library, reference};
 
-const ROUNDS: usize = 25;
+const ROUNDS: usize = 50;
 const CALLS: usize = 9;
-const QUADRATIC_CALLS: usize = 5;
+/// The quadratic one, which takes long, is called once in so many rounds.
+const QUADRATIC_ROUNDS: usize = 10;
 
-const SHAPES: [Shape; 4] = [Shape::Random, Shape::Chain, Shape::Star, Shape::Binary];
+const SHAPES: [Shape; 5] = [
+    Shape::Random,
+    Shape::Chain,
+    Shape::Star,
+    Shape::Binary,
+    Shape::Deep,
+];
+
 const JOBS: [usize; 3] = [64, 512, JOB_LIMIT];
 
 /// The whole run: input, output, and the length answered.
 type Runner = fn(&[u8], &mut [u8]) -> usize;
 
-/// The middle time of each whole run on one table.
+/// The least time of each whole run on one table.
 struct Times {
     proved: Duration,
     by_hand: Duration,
@@ -27,72 +42,119 @@ struct Times {
 }
 
 fn main() {
-    println!("shape, reach, jobs: proved µs, by hand µs, quadratic µs; proved / by hand, quadratic / proved");
-    let mut output = vec![0; OUTPUT_BYTES];
-    let growths = SHAPES.map(|shape| {
-        let of_jobs = |jobs| row(shape, Reach::Any, jobs, &mut output).proved;
-        growth(shape, JOBS.map(of_jobs))
-    });
-    for shape in SHAPES {
-        for reach in [Reach::Point, Reach::Whole] {
-            row(shape, reach, JOB_LIMIT, &mut output);
-        }
+    println!("times in µs; ratios: proved / by hand, quadratic / proved");
+    println!(
+        "{:8} {:12} {:>8} {:>6} {:>9} {:>9} {:>11} {:>7} {:>7}",
+        "tree", "paths", "layouts", "jobs", "proved", "by hand", "quadratic", "p / h", "q / p"
+    );
+    for jobs in [64, 512] {
+        rows(
+            Reach::Any,
+            Size {
+                layouts: jobs,
+                jobs,
+            },
+        );
     }
-    for line in growths {
-        println!("{line}");
+    let by_jobs = JOBS.map(|jobs| rows(Reach::Any, full_tree(jobs)));
+    for reach in [Reach::Point, Reach::Whole] {
+        rows(reach, full_tree(JOB_LIMIT));
     }
+    for (at, shape) in SHAPES.into_iter().enumerate() {
+        print_growth(shape, by_jobs.each_ref().map(|times| times[at].proved));
+    }
+}
+
+fn full_tree(jobs: usize) -> Size {
+    let layouts = LAYOUT_LIMIT;
+    Size { layouts, jobs }
+}
+
+/// The rows of trees of each shape.
+fn rows(reach: Reach, size: Size) -> Vec<Times> {
+    let shapes = SHAPES.into_iter();
+    shapes.map(|shape| row(shape, reach, size)).collect()
 }
 
 /// Measures one table and prints its row.
-fn row(shape: Shape, reach: Reach, jobs: usize, output: &mut [u8]) -> Times {
-    let layouts = LAYOUT_LIMIT;
-    let table = table_of_shape(shape, reach, Size { layouts, jobs }, &mut Generator::new(1));
+fn row(shape: Shape, reach: Reach, size: Size) -> Times {
+    let table = table_of_shape(shape, reach, size, &mut Generator::new(1));
     let input = table_lines(&table).concat();
     stop_unless_same(&input);
-    let times = times(&input, output);
-    println!(
-        "{shape:?}, {reach:?}, {jobs}: {}, {}, {}; {:.2}, {:.1}",
-        times.proved.as_micros(),
-        times.by_hand.as_micros(),
-        times.quadratic.as_micros(),
-        ratio(times.proved, times.by_hand),
-        ratio(times.quadratic, times.proved),
-    );
+    let times = times(&input, &mut vec![0; OUTPUT_BYTES]);
+    print_row(shape, reach, size, &times);
     times
 }
 
-/// The same output for all, cleared by none but the runs themselves. The two that are compared take
-/// turns, so that what else the machine does weighs on both.
+fn print_row(shape: Shape, reach: Reach, size: Size, times: &Times) {
+    println!(
+        "{:8} {:12} {:>8} {:>6} {:>9.1} {:>9.1} {:>11.1} {:>7.2} {:>7.1}",
+        format!("{shape:?}"),
+        path_name(reach),
+        size.layouts,
+        size.jobs,
+        microseconds(times.proved),
+        microseconds(times.by_hand),
+        microseconds(times.quadratic),
+        times.proved.div_duration_f64(times.by_hand),
+        times.quadratic.div_duration_f64(times.proved),
+    );
+}
+
+/// How the time grows with the jobs.
+fn print_growth(shape: Shape, [few, some, full]: [Duration; 3]) {
+    println!(
+        "{shape:?}, proved: 64 to 512 jobs × {:.2}, 512 to 4,096 × {:.2}, 64 to 4,096 × {:.2}",
+        some.div_duration_f64(few),
+        full.div_duration_f64(some),
+        full.div_duration_f64(few),
+    );
+}
+
+fn path_name(reach: Reach) -> &'static str {
+    match reach {
+        Reach::Any => "any",
+        Reach::Short => "short",
+        Reach::Whole => "top = 0",
+        Reach::Point => "top = bottom",
+    }
+}
+
+fn microseconds(time: Duration) -> f64 {
+    time.as_secs_f64() * 1e6
+}
+
 fn times(input: &[u8], output: &mut [u8]) -> Times {
-    let mut proved = Vec::new();
-    let mut by_hand = Vec::new();
-    for _ in 0..ROUNDS {
-        proved.extend(call_times(library::run, CALLS, input, output));
-        by_hand.extend(call_times(by_hand::run_into, CALLS, input, output));
-    }
-    let quadratic = call_times(reference::run::run_into, QUADRATIC_CALLS, input, output);
-    Times {
-        proved: middle(proved),
-        by_hand: middle(by_hand),
-        quadratic: middle(quadratic),
-    }
-}
-
-fn call_times(runner: Runner, calls: usize, input: &[u8], output: &mut [u8]) -> Vec<Duration> {
-    let mut time = || {
-        let start = Instant::now();
-        runner(input, output);
-        start.elapsed()
+    let mut times = Times {
+        proved: Duration::MAX,
+        by_hand: Duration::MAX,
+        quadratic: Duration::MAX,
     };
-    (0..calls).map(|_| time()).collect()
+    for round in 0..ROUNDS {
+        lower(&mut times.proved, library::run, input, output);
+        lower(&mut times.by_hand, by_hand::run_into, input, output);
+        if round % QUADRATIC_ROUNDS == 0 {
+            let quadratic = time(reference::run::run_into, input, output);
+            times.quadratic = times.quadratic.min(quadratic);
+        }
+    }
+    times
 }
 
-fn middle(mut times: Vec<Duration>) -> Duration {
-    times.sort();
-    times[times.len() / 2]
+/// Lowers a time to the least of some calls in a row.
+fn lower(least: &mut Duration, runner: Runner, input: &[u8], output: &mut [u8]) {
+    for _ in 0..CALLS {
+        *least = time(runner, input, output).min(*least);
+    }
 }
 
-/// A fast run that writes something else would not be worth its time.
+fn time(runner: Runner, input: &[u8], output: &mut [u8]) -> Duration {
+    let start = Instant::now();
+    runner(input, output);
+    start.elapsed()
+}
+
+/// Times are compared only where all three write the same.
 fn stop_unless_same(input: &[u8]) {
     let written = |runner: Runner| {
         let mut output = vec![1; OUTPUT_BYTES];
@@ -104,18 +166,4 @@ fn stop_unless_same(input: &[u8]) {
         proved == written(reference::run::run_into),
         "reference differs"
     );
-}
-
-fn growth(shape: Shape, times: [Duration; 3]) -> String {
-    let [few, some, full] = times;
-    format!(
-        "{shape:?}, proved: 64 to 512 jobs × {:.2}, 512 to 4,096 × {:.2}, 64 to 4,096 × {:.2}",
-        ratio(some, few),
-        ratio(full, some),
-        ratio(full, few),
-    )
-}
-
-fn ratio(time: Duration, other: Duration) -> f64 {
-    time.as_secs_f64() / other.as_secs_f64()
 }

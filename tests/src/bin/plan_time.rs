@@ -17,17 +17,17 @@ fn main() {
     }
 }
 
-/// The middle time of a call for 64, 512 and 4,096 jobs.
+/// The median time of a call for 64, 512 and 4,096 jobs.
 fn times(shape: Shape, reach: Reach) -> String {
     let of_size = |jobs| {
         let layouts = LAYOUT_LIMIT;
         let table = table_of_shape(shape, reach, Size { layouts, jobs }, &mut Generator::new(1));
-        format!("{jobs} jobs {} µs", middle_time(&table).as_micros())
+        format!("{jobs} jobs {} µs", median_time(&table).as_micros())
     };
     [64, 512, JOB_LIMIT].map(of_size).join(", ")
 }
 
-fn middle_time(table: &Table) -> Duration {
+fn median_time(table: &Table) -> Duration {
     let mut partners = vec![0; table.jobs()];
     let mut layouts = partners.clone();
     let mut work = vec![0; WORK_CELLS];

@@ -5,12 +5,12 @@ use std::process::ExitCode;
 use tests::examples::{marked, BAKEHOUSE_BYTES, READINGS};
 use tests::lent::Lent;
 use tests::library;
-use tests::made::damage::{damaged, damaged_often, loose_lines, DAMAGES, VERY_LONG};
+use tests::made::damage::{damaged, damaged_often, nearly_right_lines, DAMAGES, VERY_LONG};
 use tests::made::tables::{any_parents, table, table_of_size, Size};
 use tests::made::Generator;
 use tests::reference::table::{read_into, table_lines, Buffers, Counts};
 use tests::reference::{Refusal, Table, ABSENT, JOB_LIMIT, LAYOUT_LIMIT};
-use tests::report::{Outcome, Report, Tally};
+use tests::report::{AnswerCounts, Outcome, Report};
 
 /// The lengths of the buffers lent.
 #[derive(Clone, Copy)]
@@ -30,7 +30,7 @@ const EXACT: Room = Room {
 
 fn main() -> ExitCode {
     let mut report = Report::new("reader");
-    let mut tally = Tally::default();
+    let mut answers = AnswerCounts::default();
     report.listed("document 01's tables", marked(), |example| {
         let bytes = table_lines(&example.table).concat();
         agrees(&bytes, EXACT, &mut Generator::new(0))
@@ -39,35 +39,35 @@ fn main() -> ExitCode {
     report.listed("document 01's limits", limits(), at_limit);
     report.made("whole tables", 20_000, |generator| {
         let bytes = table_lines(&table(generator)).concat();
-        tallied(&mut tally, &bytes, room(generator), generator)
+        counted(&mut answers, &bytes, room(generator), generator)
     });
     report.made("tables at the limits", 200, |generator| {
         let bytes = table_lines(&table_of_size(limit_size(generator), generator)).concat();
-        tallied(&mut tally, &bytes, room(generator), generator)
+        counted(&mut answers, &bytes, room(generator), generator)
     });
     report.made("one damage", 50_000, |generator| {
         let damage = generator.choice(&DAMAGES);
         let bytes = damaged(damage, &table(generator), generator);
-        tallied(&mut tally, &bytes, room(generator), generator)
+        counted(&mut answers, &bytes, room(generator), generator)
     });
     report.made("several damages", 20_000, |generator| {
         let bytes = damaged_often(&table(generator), generator);
-        tallied(&mut tally, &bytes, room(generator), generator)
+        counted(&mut answers, &bytes, room(generator), generator)
     });
     report.made("lines out of order", 60_000, |generator| {
-        let bytes = loose_lines(generator);
-        tallied(&mut tally, &bytes, room(generator), generator)
+        let bytes = nearly_right_lines(generator);
+        counted(&mut answers, &bytes, room(generator), generator)
     });
     report.made("every place of damage", 40, every_place);
     report.made("buffers of any length", 5_000, |generator| {
         let bytes = table_lines(&table(generator)).concat();
-        tallied(&mut tally, &bytes, any_room(generator), generator)
+        counted(&mut answers, &bytes, any_room(generator), generator)
     });
     report.made("long inputs", 60, |generator| {
         let bytes = long_input(generator);
-        tallied(&mut tally, &bytes, room(generator), generator)
+        counted(&mut answers, &bytes, room(generator), generator)
     });
-    report.tally(&tally, &[0, 1, 2, 3, 4, 5, 6, 7, 8], 100);
+    report.answer_counts(&answers, &[0, 1, 2, 3, 4, 5, 6, 7, 8], 100);
     report.finish()
 }
 
@@ -109,8 +109,13 @@ fn agrees(bytes: &[u8], room: Room, generator: &mut Generator) -> Outcome {
     check(bytes, room, generator).map(|_| ())
 }
 
-fn tallied(tally: &mut Tally, bytes: &[u8], room: Room, generator: &mut Generator) -> Outcome {
-    tally.add(&check(bytes, room, generator)?);
+fn counted(
+    answers: &mut AnswerCounts,
+    bytes: &[u8],
+    room: Room,
+    generator: &mut Generator,
+) -> Outcome {
+    answers.add(&check(bytes, room, generator)?);
     Ok(())
 }
 

@@ -12,7 +12,7 @@ use tests::made::tables::{table, table_of_size, Size};
 use tests::made::Generator;
 use tests::plan_checks::{check_example, small_tables};
 use tests::reference::paths::paths;
-use tests::reference::plan::{elimination_order, plan, plan_of, Counts, Room};
+use tests::reference::plan::{plan, plan_of, running_order, Room, Totals};
 use tests::reference::rivals::{keeps_rules, most_before_cuts, pairs_before_cuts, pairs_of};
 use tests::reference::run::run;
 use tests::reference::stretch::shared_stretch;
@@ -73,7 +73,7 @@ fn reference_planner(
     partners: &mut [u16],
     layouts: &mut [u16],
     work: &mut [u16],
-) -> Result<Counts, Refusal> {
+) -> Result<Totals, Refusal> {
     let room = Room {
         partners: partners.len(),
         layouts: layouts.len(),
@@ -83,7 +83,7 @@ fn reference_planner(
     partners[..table.jobs()].copy_from_slice(&plan.partners);
     layouts[..table.jobs()].copy_from_slice(&plan.layouts);
     work[..WORK_CELLS].fill(0);
-    Ok(plan.counts)
+    Ok(plan.totals)
 }
 
 /// All that document 01 says of the bakehouse table.
@@ -95,7 +95,7 @@ fn bakehouse_as_printed() -> Outcome {
         BAKEHOUSE_BYTES.to_vec(),
     )?;
     same("plan", run(BAKEHOUSE_BYTES), BAKEHOUSE_PLAN.to_vec())?;
-    let order = elimination_order(&table);
+    let order = running_order(&table);
     same("order", order.as_slice(), &BAKEHOUSE_ORDER)?;
     let leaves = slot_leaves(&table, &order);
     // The lookups of jobs 4, 2 and 0, the first jobs of the passes in turn.
@@ -143,7 +143,7 @@ fn spans() -> Vec<(usize, usize, usize)> {
         .collect()
 }
 
-/// One lookup visits at most 4k + 1 cells, and an empty span ends at the topmost.
+/// One lookup visits at most 4k + 1 nodes, and an empty span ends at the root.
 fn visits_within_bound((width, from, to): (usize, usize, usize)) -> Outcome {
     let asked: Vec<bool> = (0..width).map(|slot| from <= slot && slot < to).collect();
     let count = visits(&asked);
@@ -156,7 +156,7 @@ fn best_at_every_cut(table: &Table) -> Outcome {
     let plan = plan_of(table);
     let pairs = pairs_of(&plan.partners);
     keeps_rules(table, &pairs)?;
-    same("pairs", pairs.len(), usize::from(plan.counts.pairs))?;
+    same("pairs", pairs.len(), usize::from(plan.totals.pairs))?;
     let ours = pairs_before_cuts(table, &pairs);
     same("pairs in front of the cuts", ours, most_before_cuts(table))
 }
@@ -192,7 +192,7 @@ fn unbroken_spans(parents: &[u16]) -> Outcome {
 fn sharing_by_spans(table: &Table) -> Outcome {
     let tree = settled(&table.parents);
     let paths = paths(table);
-    let order = elimination_order(table);
+    let order = running_order(table);
     for (rank, &i) in order.iter().enumerate() {
         for &j in &order[rank + 1..] {
             let shares = paths[i].shares_with(&paths[j]);

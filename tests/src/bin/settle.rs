@@ -8,11 +8,11 @@ use tests::made::tables::any_parents;
 use tests::made::Generator;
 use tests::reference::tree::settle;
 use tests::reference::{Refusal, ABSENT, LAYOUT_LIMIT};
-use tests::report::{Outcome, Report, Tally};
+use tests::report::{AnswerCounts, Outcome, Report};
 
 fn main() -> ExitCode {
     let mut report = Report::new("settle");
-    let mut tally = Tally::default();
+    let mut answers = AnswerCounts::default();
     report.listed("document 01's layouts", said(), |(parents, answer)| {
         as_said(&parents, answer)
     });
@@ -23,25 +23,25 @@ fn main() -> ExitCode {
     report.made("right parents", 20_000, |generator| {
         let parents = right_parents(generator);
         let lengths = lengths(parents.len(), generator);
-        tallied(&mut tally, &parents, lengths, generator)
+        counted(&mut answers, &parents, lengths, generator)
     });
     report.made("wrong parents", 20_000, |generator| {
         let parents = wrong_parents(generator);
         let lengths = lengths(parents.len(), generator);
-        tallied(&mut tally, &parents, lengths, generator)
+        counted(&mut answers, &parents, lengths, generator)
     });
     report.made("lengths about the limit", 500, |generator| {
         let count = LAYOUT_LIMIT - 2 + generator.below(5);
         let parents = any_parents(count, generator);
         let lengths = lengths(count, generator);
-        tallied(&mut tally, &parents, lengths, generator)
+        counted(&mut answers, &parents, lengths, generator)
     });
     report.made("results of any length", 10_000, |generator| {
         let parents = right_parents(generator);
         let lengths = [0; 3].map(|_: usize| generator.below(parents.len() + 3));
-        tallied(&mut tally, &parents, lengths, generator)
+        counted(&mut answers, &parents, lengths, generator)
     });
-    report.tally(&tally, &[0, 3, 4, 8], 50);
+    report.answer_counts(&answers, &[0, 3, 4, 8], 50);
     report.finish()
 }
 
@@ -76,13 +76,13 @@ fn check(
     Ok(answer)
 }
 
-fn tallied(
-    tally: &mut Tally,
+fn counted(
+    answers: &mut AnswerCounts,
     parents: &[u16],
     lengths: [usize; 3],
     generator: &mut Generator,
 ) -> Outcome {
-    tally.add(&check(parents, lengths, generator)?);
+    answers.add(&check(parents, lengths, generator)?);
     Ok(())
 }
 

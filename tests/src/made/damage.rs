@@ -274,10 +274,10 @@ fn end_line(layouts: u16, jobs: u16) -> Vec<u8> {
 }
 
 fn any_byte(generator: &mut Generator) -> u8 {
-    let wild = generator.bits() as u8;
+    let any = generator.bits() as u8;
     let digit = generator.choice(DIGITS);
     generator.choice(&[
-        b'\n', b'\n', b' ', b'\r', b'\t', 0, wild, digit, digit, digit,
+        b'\n', b'\n', b' ', b'\r', b'\t', 0, any, digit, digit, digit,
     ])
 }
 
@@ -304,8 +304,8 @@ pub fn any_line(layouts: usize, generator: &mut Generator) -> Vec<u8> {
 
 /// Lines that are nearly a small table: numbers right and wrong, and now and then a line out of its
 /// place.
-pub fn loose_lines(generator: &mut Generator) -> Vec<u8> {
-    let mut lines = table_lines(&loose_table(generator));
+pub fn nearly_right_lines(generator: &mut Generator) -> Vec<u8> {
+    let mut lines = table_lines(&nearly_right_table(generator));
     for _ in 0..generator.below(3) {
         let (one, other) = (generator.below(lines.len()), generator.below(lines.len()));
         lines.swap(one, other);
@@ -318,7 +318,7 @@ pub fn loose_lines(generator: &mut Generator) -> Vec<u8> {
 }
 
 /// A small table whose parents may be wrong, and whose tops and bottoms are any numbers.
-fn loose_table(generator: &mut Generator) -> Table {
+fn nearly_right_table(generator: &mut Generator) -> Table {
     let layouts = generator.between(1, 5);
     let mut table = Table {
         parents: tables::any_parents(layouts, generator),

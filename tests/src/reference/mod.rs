@@ -19,7 +19,7 @@ pub const WORK_CELLS: usize = 32_768;
 /// The output bytes that the whole run asks for.
 pub const OUTPUT_BYTES: usize = 32_768;
 
-/// Why an input is turned away ("What each operation turns away").
+/// Why an input is refused ("What each operation turns away").
 #[derive(Clone, Copy, Debug, PartialEq, Eq)]
 pub struct Refusal {
     pub number: u16,

@@ -3,13 +3,13 @@
 //! shares with it.
 
 use super::paths::{deepest_shared, paths, Path};
-use super::tree::{at_or_below, depth, refuse_wrong_parents};
+use super::tree::{depth, is_ancestor, refuse_wrong_parents};
 use super::visits::{lookup_visits, slot_leaves};
 use super::{refuse, Refusal, Table, ABSENT, JOB_LIMIT, LAYOUT_LIMIT, WORK_CELLS};
 
 /// What *Plan* gives back.
 #[derive(Clone, Copy, Debug, PartialEq, Eq)]
-pub struct Counts {
+pub struct Totals {
     pub pairs: u16,
     pub singles: u16,
     pub visits: u32,
@@ -20,7 +20,7 @@ pub struct Counts {
 pub struct Plan {
     pub partners: Vec<u16>,
     pub layouts: Vec<u16>,
-    pub counts: Counts,
+    pub totals: Totals,
 }
 
 /// The lengths of the results and the work cells lent to *Plan*.
@@ -63,14 +63,14 @@ fn refuse_wrong_job(table: &Table, job: usize) -> Result<(), Refusal> {
     if !is_layout(top) || !is_layout(bottom) {
         return refuse(5, job);
     }
-    if !at_or_below(&table.parents, bottom, top) {
+    if !is_ancestor(&table.parents, top, bottom) {
         return refuse(6, job);
     }
     Ok(())
 }
 
 /// The running order: the deeper top first, equal depths by smaller job number.
-pub fn elimination_order(table: &Table) -> Vec<usize> {
+pub fn running_order(table: &Table) -> Vec<usize> {
     let depths: Vec<usize> = table
         .tops
         .iter()
@@ -83,7 +83,7 @@ pub fn elimination_order(table: &Table) -> Vec<usize> {
 
 /// The plan of a table that is not refused.
 pub fn plan_of(table: &Table) -> Plan {
-    let order = elimination_order(table);
+    let order = running_order(table);
     let matching = greedy_matching(table, &order, &paths(table));
     let leaves = slot_leaves(table, &order);
     let visits = matching
@@ -91,7 +91,7 @@ pub fn plan_of(table: &Table) -> Plan {
         .iter()
         .map(|&job| lookup_visits(table, &leaves, job))
         .sum();
-    with_counts(table, matching.partners, visits)
+    with_totals(table, matching.partners, visits)
 }
 
 /// Who is paired with whom, and which jobs were still free at their turn.
@@ -121,8 +121,8 @@ fn greedy_matching(table: &Table, order: &[usize], paths: &[Path]) -> Matching {
     Matching { partners, lookups }
 }
 
-/// A matching written as *Plan* writes it, each pair with its deepest shared layout, and counted.
-pub fn with_counts(table: &Table, partners: Vec<Option<usize>>, visits: u32) -> Plan {
+/// A matching written as *Plan* writes it, each pair with its deepest shared layout, and its totals.
+pub fn with_totals(table: &Table, partners: Vec<Option<usize>>, visits: u32) -> Plan {
     let paths = paths(table);
     let layout = |(job, partner): (usize, &Option<usize>)| match partner {
         Some(other) => deepest_shared(table, job, &paths[*other]).unwrap_or(ABSENT),
@@ -132,7 +132,7 @@ pub fn with_counts(table: &Table, partners: Vec<Option<usize>>, visits: u32) -> 
     Plan {
         layouts: partners.iter().enumerate().map(layout).collect(),
         partners: partners.iter().map(as_cell).collect(),
-        counts: Counts {
+        totals: Totals {
             pairs: (paired / 2) as u16,
             singles: (table.jobs() - paired) as u16,
             visits,

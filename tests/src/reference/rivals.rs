@@ -2,7 +2,7 @@
 //! many pairs one can have in front of a cut.
 
 use super::paths::{paths, Path};
-use super::plan::elimination_order;
+use super::plan::running_order;
 use super::Table;
 
 /// A pair of job numbers.
@@ -50,7 +50,7 @@ fn may_pair(table: &Table, paths: &[Path], job: usize, other: usize) -> bool {
 /// How many pairs lie in front of each cut, from cut 0 to cut M.
 pub fn pairs_before_cuts(table: &Table, pairs: &[Pair]) -> Vec<usize> {
     let mut ranks = vec![0; table.jobs()];
-    for (rank, job) in elimination_order(table).into_iter().enumerate() {
+    for (rank, job) in running_order(table).into_iter().enumerate() {
         ranks[job] = rank;
     }
     let in_front = |&(job, other): &Pair, cut: usize| ranks[job] < cut && ranks[other] < cut;
@@ -61,7 +61,7 @@ pub fn pairs_before_cuts(table: &Table, pairs: &[Pair]) -> Vec<usize> {
 
 /// The most pairs that any rival plan has in front of each cut, from cut 0 to cut M.
 pub fn most_before_cuts(table: &Table) -> Vec<usize> {
-    let order = elimination_order(table);
+    let order = running_order(table);
     let paths = paths(table);
     let may_pair = |job: usize, other: usize| may_pair(table, &paths, job, other);
     (0..=table.jobs())

@@ -1,7 +1,7 @@
 //! The whole run from bytes to bytes (document 01, "The plan" and "What each operation turns
 //! away").
 
-use super::plan::{elimination_order, plan_of, Plan};
+use super::plan::{plan_of, running_order, Plan};
 use super::table::read;
 use super::{Refusal, Table, ABSENT, OUTPUT_BYTES};
 
@@ -29,9 +29,9 @@ fn refusal_line(refusal: Refusal) -> String {
     format!("1E{:02X}{:04X}\n", refusal.number, refusal.place)
 }
 
-/// One line a pass, ordered by the earlier place in it; last the counts.
+/// One line a pass, ordered by the earlier place in it; last the totals.
 fn plan_lines(table: &Table, plan: &Plan) -> String {
-    let order = elimination_order(table);
+    let order = running_order(table);
     let mut lines = String::new();
     for (rank, &job) in order.iter().enumerate() {
         let partner = plan.partners[job];
@@ -42,10 +42,10 @@ fn plan_lines(table: &Table, plan: &Plan) -> String {
             lines += &format!("11{job:04X}{partner:04X}{:04X}\n", plan.layouts[job]);
         }
     }
-    let counts = plan.counts;
+    let totals = plan.totals;
     lines
         + &format!(
             "1F{:04X}{:04X}{:08X}\n",
-            counts.pairs, counts.singles, counts.visits
+            totals.pairs, totals.singles, totals.visits
         )
 }

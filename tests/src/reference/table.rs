@@ -1,7 +1,7 @@
 //! *Read a table* line by line (document 01, "The table" and "What each operation turns away"), and
 //! tables written as lines.
 
-use super::tree::{at_or_below, right_parent};
+use super::tree::{is_ancestor, right_parent};
 use super::{refuse, Refusal, Table, ABSENT, JOB_LIMIT, LAYOUT_LIMIT};
 
 /// One line of the table.
@@ -146,7 +146,7 @@ fn job_fault(table: &Table, top: u16, bottom: u16) -> u16 {
         3
     } else if !is_layout(top) || !is_layout(bottom) {
         5
-    } else if !at_or_below(&table.parents, bottom, top) {
+    } else if !is_ancestor(&table.parents, top, bottom) {
         6
     } else {
         0

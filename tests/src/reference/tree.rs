@@ -12,7 +12,7 @@ pub fn right_parent(layout: usize, parent: u16) -> bool {
     }
 }
 
-/// The layout itself and all above it, walking up.
+/// The layout itself and all above it, the deepest first.
 pub fn ancestors(parents: &[u16], layout: u16) -> Vec<u16> {
     let mut walked = vec![layout];
     let mut at = layout;
@@ -27,8 +27,9 @@ pub fn depth(parents: &[u16], layout: u16) -> usize {
     ancestors(parents, layout).len() - 1
 }
 
-pub fn at_or_below(parents: &[u16], bottom: u16, top: u16) -> bool {
-    ancestors(parents, bottom).contains(&top)
+/// Whether the lower layout stands at or below the upper one.
+pub fn is_ancestor(parents: &[u16], upper: u16, lower: u16) -> bool {
+    ancestors(parents, lower).contains(&upper)
 }
 
 /// Refusal 4: the first wrong layout, or place 0 for none.

@@ -1,4 +1,5 @@
-//! The cell count by its recursive definition (document 01, "The shelf and its cells").
+//! The nodes of the segment tree that lookups visit, by the recursive definition (document 01, "The
+//! shelf and its cells": the segment tree and its nodes).
 
 use super::tree::settled;
 use super::Table;
@@ -9,8 +10,8 @@ pub struct SlotLeaves {
     spans: Vec<(u16, u16)>,
 }
 
-/// Slots: every job, solo ones too, sorted by first leaf of bottom, then by place in the running
-/// order.
+/// Slots: every job, solo ones too, sorted by first leaf of bottom, then by rank, the place in the
+/// running order.
 pub fn slot_leaves(table: &Table, order: &[usize]) -> SlotLeaves {
     let tree = settled(&table.parents);
     let leaf = |job: usize| tree.firsts[usize::from(table.bottoms[job])];
@@ -27,7 +28,7 @@ pub fn slot_leaves(table: &Table, order: &[usize]) -> SlotLeaves {
     }
 }
 
-/// The cells that one lookup visits: it asks for every slot whose first leaf lies in the leaf span
+/// The nodes that one lookup visits: it asks for every slot whose first leaf lies in the leaf span
 /// of the job's top.
 pub fn lookup_visits(table: &Table, leaves: &SlotLeaves, job: usize) -> u32 {
     let width = table.jobs().max(1).next_power_of_two();
@@ -41,14 +42,14 @@ pub fn lookup_visits(table: &Table, leaves: &SlotLeaves, job: usize) -> u32 {
     visits(&asked)
 }
 
-/// The visits at and below one cell, given which of its slots are asked for: wholly inside or
+/// The visits at and below one node, given which of its slots are asked for: wholly inside or
 /// wholly outside ends there, otherwise both halves are visited.
-pub fn visits(cell: &[bool]) -> u32 {
-    let inside = cell.iter().all(|&asked| asked);
-    let outside = cell.iter().all(|&asked| !asked);
+pub fn visits(node: &[bool]) -> u32 {
+    let inside = node.iter().all(|&asked| asked);
+    let outside = node.iter().all(|&asked| !asked);
     if inside || outside {
         return 1;
     }
-    let (left, right) = cell.split_at(cell.len() / 2);
+    let (left, right) = node.split_at(node.len() / 2);
     1 + visits(left) + visits(right)
 }

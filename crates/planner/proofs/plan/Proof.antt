@@ -76,7 +76,7 @@ plan-settled-requires : tie.Need-plan-settled-requires
 plan-settled-requires c κs = (lent-of (c .before .before .before .before .before .before .before .before .before .before), (c .before .before .before .before .before .before .before .before .before .if6 .left, c .before .before .before .before .settle-tree .ensures))
 
 returns-7 : tie.Need-returns-7
-returns-7 c = 
+returns-7 c =
     refused-as _ _ _ _ _ _ _ _
     (wrong-layouts _ _ _ _ (lent-of (c .before .before .before .before .before)) (c .before .before .before .before .if6 .left) _ _ (checked-refused (c .before .before .before .before .before .before .before .before .before .before .before .before .before .before .before .before .before .args .parents .now) (settledAnswer (c .before .before .before .check-layouts .result)) (c .before .before .before .check-layouts .ensures) _ _ (ap settledAnswer (c .before .checked .given .1)))) refl
 
@@ -90,7 +90,7 @@ same-length-3 : tie.Need-same-length-3
 same-length-3 c = search needs
 
 returns-8 : tie.Need-returns-8
-returns-8 c = 
+returns-8 c =
     rw (right-layouts _ _ _ _ (lent-of (c .before .before .before .before .before .before .before .before .before .before .before .before .before .before .before .before .before)) (c .before .before .before .before .before .before .before .before .before .before .before .before .before .before .before .before .if6 .left) (checked-accepted (c .before .before .before .before .before .before .before .before .before .before .before .before .before .before .before .before .before .before .before .before .before .before .before .before .before .before .before .before .before .args .parents .now) (settledAnswer (c .before .before .before .before .before .before .before .before .before .before .before .before .before .before .before .check-layouts .result)) (c .before .before .before .before .before .before .before .before .before .before .before .before .before .before .before .check-layouts .ensures) (ap settledAnswer (c .before .before .before .before .before .before .before .before .before .before .before .before .before .enum-told .given .1)))) (c .before .before .before .before .before .before .plan-settled .ensures)
 
 pub plan-spec : {M : Type 1} → statement M

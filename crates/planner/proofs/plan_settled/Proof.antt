@@ -36,14 +36,14 @@ slice-aggregate-plan-accepted-3 : tie.Need-slice-aggregate-plan-accepted-3
 slice-aggregate-plan-accepted-3 c = sym (length-take-le workCells (c .before .before .before .before .before .before .before .before .before .before .before .before .before .args .work .now) (c .before .before .before .before .before .before .before .before .before .before .before .before .before .pre .0 .work-room))
 
 plan-accepted-requires : tie.Need-plan-accepted-requires
-plan-accepted-requires c κs = 
+plan-accepted-requires c κs =
     let s = c .before .before .before .before .before .before .before .before .before .before .before .before .before in
     let e = c .before .before .before .before .before .check-jobs .ensures .verdict _ (s .args .marks .now) refl (λ h. s .pre .1 .1) in
     let is = c .before .before .before .enum-told .given .1 in
     (right _ _ _ _ _ (s .args .partners .now) (s .args .printed .now) (s .args .work .now) (s .pre .0) (s .pre .1 .0) (s .pre .1 .1) _ e is, (s .pre .1 .1, room _ _ _ _ _ (s .args .partners .now) (s .args .printed .now) (s .args .work .now) (s .pre .0) (s .pre .1 .0) (s .pre .1 .1) _ e is))
 
 returns : tie.Need-returns
-returns c = 
+returns c =
     let s = c .before .before .before .before .before .before .before .before .before .before .before in
     refused-job _ _ _ _ _ _ (c .before .before .before .check-jobs .ensures .verdict _ (s .args .marks .now) refl (λ h. s .pre .1 .1)) (c .before .check .given .1)
 
@@ -57,7 +57,7 @@ same-length-3 : tie.Need-same-length-3
 same-length-3 c = search needs
 
 returns-2 : tie.Need-returns-2
-returns-2 c = 
+returns-2 c =
     let s = c .before .before .before .before .before .before .before .before .before .before .before .before .before .before .before .before .before .before .before .before in
     planned-as _ _ _ _ _ _ _ _ (s .pre .0) (s .pre .1 .0) (s .pre .1 .1) _ (c .before .before .before .before .before .before .before .before .before .before .before .before .check-jobs .ensures .verdict _ (s .args .marks .now) refl (λ h. s .pre .1 .1)) (c .before .before .before .before .before .before .before .before .before .before .enum-told .given .1) _ _ _ _ (c .before .before .before .before .before .before .plan-accepted .ensures)
 

@@ -29,7 +29,7 @@ same-length : tie.Need-same-length
 same-length c = search needs
 
 returns : tie.Need-returns
-returns c = place-inserted _ _ _ _ _ _ (c .before .before .before .before .slot-at .ensures) (c .before .before .before .before .before .before .before .pre .room) (c .before .before .insert .kept .0) (c .before .before .insert .ensures)
+returns c = place-inserted _ _ _ _ _ _ _ (c .before .before .before .before .slot-at .ensures) (c .before .before .before .before .before .before .before .pre .room) (c .before .before .insert .kept .0) (c .before .before .insert .ensures)
 
 pub insert-place-spec : {M : Type 1} → statement M
 insert-place-spec =

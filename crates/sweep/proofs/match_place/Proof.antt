@@ -6,10 +6,10 @@ use Rattle.sweep.proofs.match_place.Statement.{statement}
 use Rattle.sweep.proofs.match_place.Tie as tie
 
 remove-place-requires : tie.Need-remove-place-requires
-remove-place-requires c κs = let p = c .before .before .pre in asking-removable _ _ _ _ _ _ _ _ (p .2)
+remove-place-requires c κs = let p = c .before .before .pre in asking-removable _ _ _ _ _ _ _ _ _ (p .2)
 
 from-at-requires : tie.Need-from-at-requires
-from-at-requires c κs = let p = c .before .before .before .before .before .before .pre in omega (arith, asking-room _ _ _ _ _ _ _ _ (p .2) _ (c .before .before .before .remove-place .ensures), p .2 .inside)
+from-at-requires c κs = let p = c .before .before .before .before .before .before .pre in omega (arith, asking-room _ _ _ _ _ _ _ _ _ (p .2) _ (c .before .before .before .remove-place .ensures), p .2 .inside)
 
 mul-start : tie.Need-mul-start
 mul-start c = let p = c .before .before .before .before .before .before .before .pre in omega (arith, p .2 .sweeping .setting .few)
@@ -18,19 +18,19 @@ mul-range-minimum : tie.Need-mul-range-minimum
 mul-range-minimum c = let p = c .before .before .before .before .before .before .before .pre in omega (arith, p .2 .sweeping .setting .few)
 
 sub-range-minimum : tie.Need-sub-range-minimum
-sub-range-minimum c = let p = c .before .before .before .before .before .before .before .pre in asking-room _ _ _ _ _ _ _ _ (p .2) _ (c .before .before .before .before .remove-place .ensures)
+sub-range-minimum c = let p = c .before .before .before .before .before .before .before .pre in asking-room _ _ _ _ _ _ _ _ _ (p .2) _ (c .before .before .before .before .remove-place .ensures)
 
 part-range-minimum-start : tie.Need-part-range-minimum-start
-part-range-minimum-start c = let p = c .before .before .before .before .before .before .before .before .pre in omega (arith, asking-room _ _ _ _ _ _ _ _ (p .2) _ (c .before .before .before .before .before .remove-place .ensures))
+part-range-minimum-start c = let p = c .before .before .before .before .before .before .before .before .pre in omega (arith, asking-room _ _ _ _ _ _ _ _ _ (p .2) _ (c .before .before .before .before .before .remove-place .ensures))
 
 part-range-minimum-end : tie.Need-part-range-minimum-end
 part-range-minimum-end c = search needs
 
 range-minimum-requires : tie.Need-range-minimum-requires
-range-minimum-requires c κs = let p = c .before .before .before .before .before .before .before .before .before .pre in asking-searchable _ _ _ _ _ _ _ _ (p .2) _ (c .before .before .before .before .before .before .remove-place .ensures)
+range-minimum-requires c κs = let p = c .before .before .before .before .before .before .before .before .before .pre in asking-searchable _ _ _ _ _ _ _ _ _ (p .2) _ (c .before .before .before .before .before .before .remove-place .ensures)
 
 set-mate-requires : tie.Need-set-mate-requires
-set-mate-requires c κs = let p = c .before .before .before .before .before .before .before .before .before .before .before .before .before .before .pre in omega (arith, asking-room _ _ _ _ _ _ _ _ (p .2) _ (c .before .before .before .before .before .before .before .before .before .before .before .remove-place .ensures), p .2 .inside)
+set-mate-requires c κs = let p = c .before .before .before .before .before .before .before .before .before .before .before .before .before .before .pre in omega (arith, asking-room _ _ _ _ _ _ _ _ _ (p .2) _ (c .before .before .before .before .before .before .before .before .before .before .before .remove-place .ensures), p .2 .inside)
 
 same-length : tie.Need-same-length
 same-length c = search needs
@@ -38,17 +38,17 @@ same-length c = search needs
 returns : tie.Need-returns
 returns c = λ s next a.
     rw (c .before .before .set-mate .ensures)
-    (asked-alone _ _ _ _ _ _ _ _ a _ (c .before .before .before .before .before .before .before .before .before .before .before .before .before .before .remove-place .ensures) _ _ _ (c .before .before .before .before .before .before .before .before .before .before .from-at .ensures) (c .before .before .before .before .before .before .before .range-minimum .ensures) (c .before .before .before .before .if1 .taken))
+    (asked-alone _ _ _ _ _ _ _ _ _ a _ (c .before .before .before .before .before .before .before .before .before .before .before .before .before .before .remove-place .ensures) _ _ _ (c .before .before .before .before .before .before .before .before .before .before .from-at .ensures) (c .before .before .before .before .before .before .before .range-minimum .ensures) (c .before .before .before .before .if1 .taken))
 
 remove-place-requires-2 : tie.Need-remove-place-requires-2
-remove-place-requires-2 c κs = 
+remove-place-requires-2 c κs =
     let p = c .before .before .before .before .before .before .before .before .before .before .before .before .before .before .pre in
-    mate-removable _ _ _ _ _ _ _ _ (p .2) _ (c .before .before .before .before .before .before .before .before .before .before .before .remove-place .ensures) _ _ _ (c .before .before .before .before .before .before .before .from-at .ensures) (c .before .before .before .before .range-minimum .ensures) (c .before .if1 .left)
+    mate-removable _ _ _ _ _ _ _ _ _ (p .2) _ (c .before .before .before .before .before .before .before .before .before .before .before .remove-place .ensures) _ _ _ (c .before .before .before .before .before .before .before .from-at .ensures) (c .before .before .before .before .range-minimum .ensures) (c .before .if1 .left)
 
 set-pair-requires : tie.Need-set-pair-requires
-set-pair-requires c κs = 
+set-pair-requires c κs =
     let p = c .before .before .before .before .before .before .before .before .before .before .before .before .before .before .before .before .before .before .pre in
-    mate-pairable _ _ _ _ _ _ _ _ (p .2) _ (c .before .before .before .before .before .before .before .before .before .before .before .before .before .before .before .remove-place .ensures) _ _ _ (c .before .before .before .before .before .before .before .before .before .before .before .from-at .ensures) (c .before .before .before .before .before .before .before .before .range-minimum .ensures) (c .before .before .before .before .before .if1 .left) _ (c .before .before .before .remove-place2 .ensures)
+    mate-pairable _ _ _ _ _ _ _ _ _ (p .2) _ (c .before .before .before .before .before .before .before .before .before .before .before .before .before .before .before .remove-place .ensures) _ _ _ (c .before .before .before .before .before .before .before .before .before .before .before .from-at .ensures) (c .before .before .before .before .before .before .before .before .range-minimum .ensures) (c .before .before .before .before .before .if1 .left) _ (c .before .before .before .remove-place2 .ensures)
 
 same-length-2 : tie.Need-same-length-2
 same-length-2 c = search needs
@@ -56,7 +56,7 @@ same-length-2 c = search needs
 returns-2 : tie.Need-returns-2
 returns-2 c = λ s next a.
     rw (c .before .before .set-pair .ensures)
-    (asked-pair _ _ _ _ _ _ _ _ a _ (c .before .before .before .before .before .before .before .before .before .before .before .before .before .before .before .before .before .before .remove-place .ensures) _ _ _ (c .before .before .before .before .before .before .before .before .before .before .before .before .before .before .from-at .ensures) (c .before .before .before .before .before .before .before .before .before .before .before .range-minimum .ensures) (c .before .before .before .before .before .before .before .before .if1 .left) _ (c .before .before .before .before .before .before .remove-place2 .ensures))
+    (asked-pair _ _ _ _ _ _ _ _ _ a _ (c .before .before .before .before .before .before .before .before .before .before .before .before .before .before .before .before .before .before .remove-place .ensures) _ _ _ (c .before .before .before .before .before .before .before .before .before .before .before .before .before .before .from-at .ensures) (c .before .before .before .before .before .before .before .before .before .before .before .range-minimum .ensures) (c .before .before .before .before .before .before .before .before .if1 .left) _ (c .before .before .before .before .before .before .remove-place2 .ensures))
 
 pub match-place-spec : {M : Type 1} → statement M
 match-place-spec =

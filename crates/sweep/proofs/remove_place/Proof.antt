@@ -29,7 +29,7 @@ same-length : tie.Need-same-length
 same-length c = search needs
 
 returns : tie.Need-returns
-returns c = place-removed _ _ _ _ _ _ (c .before .before .before .before .slot-at .ensures) (c .before .before .before .before .before .before .before .pre .room) (c .before .before .remove .kept .0) (c .before .before .remove .ensures)
+returns c = place-removed _ _ _ _ _ _ _ (c .before .before .before .before .slot-at .ensures) (c .before .before .before .before .before .before .before .pre .room) (c .before .before .remove .kept .0) (c .before .before .remove .ensures)
 
 pub remove-place-spec : {M : Type 1} → statement M
 remove-place-spec =

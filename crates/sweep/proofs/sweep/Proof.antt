@@ -1,13 +1,12 @@
 -- The sweep goes from the schedule that the cells hold to the passes of the greedy rule, place by place.
 use borrow.Author.Needs.{needs}
-use native.Mathlib.Omega.{arith}
 use Prim.Native.Nat.{_-_}
-use Rattle.sweep_laws.specs.Sweep.{SweptTo, swept-first, swept-next, parts-room, width-some, tree-room, swept-underway, swept-all}
+use Rattle.sweep_laws.specs.Sweep.{SweptTo, swept-first, swept-next, tree-clearable, swept-underway, swept-all}
 use Rattle.sweep.proofs.sweep.Statement.{statement}
 use Rattle.sweep.proofs.sweep.Tie as tie
 
 abbrev Inv-loop : tie.InvT-loop
-Inv-loop work₀ count shape start progress₀ i₀ work progress i = SweptTo count (shape .levels) (shape .width) work₀ i (progress .next) (progress .passes) (progress .pairs) (progress .visits) work
+Inv-loop work₀ count shape start progress₀ i₀ work progress i = SweptTo count (shape .levels) (shape .kept) (shape .width) work₀ i (progress .next) (progress .passes) (progress .pairs) (progress .visits) work
 
 abbrev μ-loop : tie.MeasureT-loop
 μ-loop work₀ count shape start progress₀ i₀ work progress i = count - i
@@ -31,16 +30,16 @@ part-clear-end : tie.Need-part-clear-end Inv-loop μ-loop
 part-clear-end c = search needs
 
 clear-requires : tie.Need-clear-requires Inv-loop μ-loop
-clear-requires c κs = (width-some _ _ _ _ (c .before .before .before .pre) (c .before .shape-for .ensures), tree-room _ _ _ _ (c .before .before .before .pre) (c .before .shape-for .ensures))
+clear-requires c κs = tree-clearable _ _ _ _ _ (c .before .before .before .pre) (c .before .shape-for .ensures)
 
 loop-holds : tie.Need-loop-holds Inv-loop μ-loop
-loop-holds c = swept-first _ _ _ _
+loop-holds c = swept-first _ _ _ _ _
 
 cast-t16 : tie.Need-cast-t16 Inv-loop μ-loop
 cast-t16 c = search needs
 
 step-requires : tie.Need-step-requires Inv-loop μ-loop
-step-requires c κs = (_, c .before .loop-test .taken, swept-underway _ _ _ _ (c .before .before .before .before .before .before .before .before .before .pre) (c .before .before .before .before .before .before .before .shape-for .ensures) _ (c .before .before .before .before .before .clear .kept .0) (c .before .before .before .before .before .clear .ensures) _ _ _ _ _ _ (c .before .before .loop .inv))
+step-requires c κs = (_, c .before .loop-test .taken, swept-underway _ _ _ _ _ (c .before .before .before .before .before .before .before .before .before .pre) (c .before .before .before .before .before .before .before .shape-for .ensures) _ (c .before .before .before .before .before .clear .kept .0) (c .before .before .before .before .before .clear .ensures) _ _ _ _ _ _ (c .before .before .loop .inv))
 
 add-i : tie.Need-add-i Inv-loop μ-loop
 add-i c = search needs
@@ -49,13 +48,13 @@ loop-less : tie.Need-loop-less Inv-loop μ-loop
 loop-less c = search needs
 
 loop-again : tie.Need-loop-again Inv-loop μ-loop
-loop-again c = swept-next _ _ _ _ _ _ _ _ _ _ _ _ _ _ _ (c .before .before .before .before .loop-test .taken) (c .before .before .step .ensures) (c .before .before .before .before .before .loop .inv)
+loop-again c = swept-next _ _ _ _ _ _ _ _ _ _ _ _ _ _ _ _ (c .before .before .before .before .loop-test .taken) (c .before .before .step .ensures) (c .before .before .before .before .before .loop .inv)
 
 same-length : tie.Need-same-length Inv-loop μ-loop
-same-length c = swept-all _ _ _ _ (c .before .before .before .before .before .before .before .before .pre) (c .before .before .before .before .before .before .shape-for .ensures) _ (c .before .before .before .before .clear .kept .0) (c .before .before .before .before .clear .ensures) _ _ _ _ _ _ (c .loop-test .left) (c .before .loop .inv) .kept
+same-length c = swept-all _ _ _ _ _ (c .before .before .before .before .before .before .before .before .pre) (c .before .before .before .before .before .before .shape-for .ensures) _ (c .before .before .before .before .clear .kept .0) (c .before .before .before .before .clear .ensures) _ _ _ _ _ _ (c .loop-test .left) (c .before .loop .inv) .kept
 
 returns : tie.Need-returns Inv-loop μ-loop
-returns c = swept-all _ _ _ _ (c .before .before .before .before .before .before .before .before .pre) (c .before .before .before .before .before .before .shape-for .ensures) _ (c .before .before .before .before .clear .kept .0) (c .before .before .before .before .clear .ensures) _ _ _ _ _ _ (c .loop-test .left) (c .before .loop .inv)
+returns c = swept-all _ _ _ _ _ (c .before .before .before .before .before .before .before .before .pre) (c .before .before .before .before .before .before .shape-for .ensures) _ (c .before .before .before .before .clear .kept .0) (c .before .before .before .before .clear .ensures) _ _ _ _ _ _ (c .loop-test .left) (c .before .loop .inv)
 
 pub sweep-spec : {M : Type 1} → statement M
 sweep-spec =

@@ -5,7 +5,8 @@ use mathlib.Core.List.{List}
 use lib.ListN.{length}
 use Rattle.model.specs.Jobs.{Table}
 use Rattle.ancestry.specs.Ancestry.{JumpPointers}
-use Rattle.planner.specs.HandBack.{HandedBack, handed-none, Plan, jobs-are, plan-cells, plan-inside, plan-more, plan-returned}
+use Rattle.passes.specs.PlanPass.{Plan, jobs-are, plan-cells}
+use Rattle.planner.specs.HandBack.{HandedBack, handed-none, plan-inside, plan-more, plan-returned}
 use borrow.Author.Needs.{needs}
 use Rattle.planner.proofs.hand_back.hand_back.Statement.{statement}
 use Rattle.planner.proofs.hand_back.hand_back.Tie as tie
@@ -30,7 +31,7 @@ jump-pointers-requires : tie.Need-jump-pointers-requires Inv-loop μ-loop
 jump-pointers-requires c κs = c .before .before .before .before .before .pre .0 .1 .spanned
 
 loop-holds : tie.Need-loop-holds Inv-loop μ-loop
-loop-holds c = 
+loop-holds c =
     let same = c .before .before .before .before .before .before .pre .1 in
     record {
       partners-length = same .0;
@@ -43,7 +44,7 @@ pass-at-requires : tie.Need-pass-at-requires Inv-loop μ-loop
 pass-at-requires c κs = (c .before .before .before .before .before .before .before .before .before .pre .0 .1 .spanned, (c .before .before .loop .inv .jumping, plan-cells (c .before .before .before .before .before .before .before .before .before .pre .0 .0) _ _ _ _ _ (c .before .before .before .before .before .before .before .before .before .pre .0 .1) _ (c .before .loop-test .taken)))
 
 write-pass-requires : tie.Need-write-pass-requires Inv-loop μ-loop
-write-pass-requires c κs = 
+write-pass-requires c κs =
     let i = c .before .before .before .before .before .loop .inv in
     (rw (i .partners-length) (plan-inside (c .before .before .before .before .before .before .before .before .before .before .before .before .pre .0 .0) _ _ _ _ _ (c .before .before .before .before .before .before .before .before .before .before .before .before .pre .0 .1) _ (c .before .before .before .before .loop-test .taken) _ (c .before .before .pass-at .ensures)), i .printed-length ∙ sym (i .partners-length))
 
@@ -54,7 +55,7 @@ loop-less : tie.Need-loop-less Inv-loop μ-loop
 loop-less c = search needs
 
 loop-again : tie.Need-loop-again Inv-loop μ-loop
-loop-again c = 
+loop-again c =
     let i = c .before .before .before .before .before .before .before .before .before .before .loop .inv in
     let w = c .before .before .before .before .write-pass in
     record {

@@ -1,26 +1,47 @@
--- `run::print::print_plan` meets its contract: the lines of the passes, the totals, and zeros.
--- Assumes nothing.
+-- `run::print::print_plan` meets its contract: the passes, the totals and zeros after them.
+use mathlib.Core.Path.{refl}
+use native.Mathlib.Nat.{le-refl}
+use Rattle.run.specs.Printing.{totals-room, plan-printed}
+use native.Mathlib.Omega.{arith}
 use borrow.Author.Needs.{needs}
-use Rattle.run.specs.Whole.{plan-printed}
 use Rattle.run.proofs.print.print_plan.Statement.{statement}
 use Rattle.run.proofs.print.print_plan.Tie as tie
+use Rattle.lines.proofs.clear_from.Reads as clear-from-reads
+use Rattle.lines.proofs.put_totals.Reads as put-totals-reads
+
+cast-count : tie.Need-cast-count
+cast-count c = search needs
+
+cast-count-2 : tie.Need-cast-count-2
+cast-count-2 c = search needs
+
+add-count : tie.Need-add-count
+add-count c = search needs
 
 put-passes-requires : tie.Need-put-passes-requires
-put-passes-requires c κs = search needs
+put-passes-requires c κs = let q = c .before .before .before .before .before .before .before .before .pre .0 in (refl, ((q .0, q .1), c .before .before .before .before .before .before .before .before .pre .1))
 
 put-totals-requires : tie.Need-put-totals-requires
-put-totals-requires c κs = search needs
+put-totals-requires c κs = (refl, totals-room (c .before .before .before .before .before .before .before .before .before .before .before .before .before .pre .0 .0) _ _ _ _ _ (c .before .before .before .before .before .before .before .before .before .before .before .before .before .pre .0 .1) _ _ _ _ (c .before .before .before .before .before .before .before .before .before .before .before .before .before .pre .1) (c .before .before .before .before .put-passes .ensures (c .before .before .before .before .before .before .before .before .before .before .before .before .before .pre .0 .0) (c .before .before .before .before .before .before .before .before .before .before .before .before .before .pre .0 .1)))
 
 clear-from-requires : tie.Need-clear-from-requires
-clear-from-requires c κs = search needs
+clear-from-requires c κs = omega (arith, totals-room (c .before .before .before .before .before .before .before .before .before .before .before .before .before .before .before .before .before .pre .0 .0) _ _ _ _ _ (c .before .before .before .before .before .before .before .before .before .before .before .before .before .before .before .before .before .pre .0 .1) _ _ _ _ (c .before .before .before .before .before .before .before .before .before .before .before .before .before .before .before .before .before .pre .1) (c .before .before .before .before .before .before .before .before .put-passes .ensures (c .before .before .before .before .before .before .before .before .before .before .before .before .before .before .before .before .before .pre .0 .0) (c .before .before .before .before .before .before .before .before .before .before .before .before .before .before .before .before .before .pre .0 .1)), c .before .before .before .put-totals .ensures .moved, c .before .before .before .put-totals .ensures .sized)
 
 same-length : tie.Need-same-length
 same-length c = search needs
 
 returns : tie.Need-returns
-returns c = plan-printed _ _ _ _ _ _ _ _ _ _ _ _ _ (c .before .before .before .before .before .before .before .before .before .before .before .before .before .before .before .before .before .before .before .before .pre) (c .before .before .before .before .before .before .before .before .before .before .put-passes .ensures) (c .before .before .before .before .before .before .put-totals .ensures) (c .before .before .clear-from .ensures)
+returns c = λ tb p of. plan-printed tb _ _ _ _ _ p _ of _ (le-refl _) _ _ _ _ _ _ (c .before .before .before .before .before .before .before .before .before .before .before .before .before .before .before .before .before .before .before .before .pre .1) (c .before .before .before .before .before .before .before .before .before .before .before .put-passes .ensures tb p) (c .before .before .before .before .before .before .put-totals .ensures) (c .before .before .clear-from .ensures)
 
 pub print-plan-spec : {M : Type 1} → statement M
 print-plan-spec =
     tie.close
-    (tie.spec put-passes-requires put-totals-requires clear-from-requires same-length returns)
+    (tie.spec
+    cast-count
+    cast-count-2
+    add-count
+    put-passes-requires
+    put-totals-requires
+    clear-from-requires
+    same-length
+    returns)

@@ -1,44 +1,44 @@
 -- The first `at` cells are cleared, and those past them untouched.
 use borrow.Author.Needs.{needs}
 use native.Mathlib.Omega.{arith}
+use Prim.Native.Nat.{_*_, _-_}
+use mathlib.Core.Path.{refl}
+use Rattle.sweep_laws.specs.Nodes.{ClearedTo, cleared-same, cleared-step, cleared-all}
 use Rattle.sweep.proofs.segment_tree.clear.Statement.{statement}
 use Rattle.sweep.proofs.segment_tree.clear.Tie as tie
-use Prim.Native.Nat.{_*_, _-_}
-use Rattle.sweep_laws.specs.Nodes.{ClearedTo, cleared-same, cleared-step, cleared-all}
-use mathlib.Core.Path.{refl}
 
 abbrev Inv-loop : tie.InvT-loop
-Inv-loop nodes₀ width at₀ nodes at = ClearedTo width nodes₀ nodes at
+Inv-loop nodes₀ shape at₀ nodes at = ClearedTo (shape .width) nodes₀ nodes at
 
 abbrev μ-loop : tie.MeasureT-loop
-μ-loop nodes₀ width at₀ nodes at = 2 * width - at
+μ-loop nodes₀ shape at₀ nodes at = 2 * shape .width - at
 
 loop-holds : tie.Need-loop-holds Inv-loop μ-loop
 loop-holds c = record { within = search needs; filled = refl }
 
-mul-loop : tie.Need-mul-loop Inv-loop μ-loop
-mul-loop c = search needs
+mul-if1 : tie.Need-mul-if1 Inv-loop μ-loop
+mul-if1 c = omega arith
 
 mul-nodes : tie.Need-mul-nodes Inv-loop μ-loop
-mul-nodes c = search needs
+mul-nodes c = omega arith
 
 slice-write-nodes : tie.Need-slice-write-nodes Inv-loop μ-loop
-slice-write-nodes c = omega (arith, cleared-same _ _ (c .before .before .pre .0) (c .before .before .pre .1) _ _ (c .before .loop .inv))
+slice-write-nodes c = omega (arith, cleared-same _ _ _ (c .before .before .before .pre) _ _ (c .before .before .loop .inv))
 
 add-at : tie.Need-add-at Inv-loop μ-loop
-add-at c = search needs
+add-at c = omega arith
 
 loop-less : tie.Need-loop-less Inv-loop μ-loop
-loop-less c = search needs
+loop-less c = omega arith
 
 loop-again : tie.Need-loop-again Inv-loop μ-loop
-loop-again c = cleared-step _ _ (c .before .before .pre .0) (c .before .before .pre .1) _ _ (omega arith) (c .before .loop .inv)
+loop-again c = cleared-step _ _ _ (c .before .before .before .pre) _ _ (omega arith) (c .before .before .loop .inv)
 
 same-length : tie.Need-same-length Inv-loop μ-loop
-same-length c = cleared-same _ _ (c .before .before .pre .0) (c .before .before .pre .1) _ _ (c .before .loop .inv)
+same-length c = cleared-same _ _ _ (c .before .before .before .pre) _ _ (c .before .before .loop .inv)
 
 returns : tie.Need-returns Inv-loop μ-loop
-returns c = cleared-all _ _ (c .before .before .pre .0) (c .before .before .pre .1) _ _ (omega arith) (c .before .loop .inv)
+returns c = cleared-all _ _ _ (c .before .before .before .pre) _ _ (omega arith) (c .before .before .loop .inv)
 
 pub clear-spec : {M : Type 1} → statement M
 clear-spec =
@@ -47,7 +47,7 @@ clear-spec =
     Inv-loop
     μ-loop
     loop-holds
-    mul-loop
+    mul-if1
     mul-nodes
     slice-write-nodes
     add-at

@@ -1,65 +1,68 @@
 -- On the way up each inner node is right but the one above the node at hand.
 use borrow.Author.Needs.{needs}
 use native.Mathlib.Omega.{arith}
-use Rattle.sweep.proofs.segment_tree.remove.Statement.{statement}
-use Rattle.sweep.proofs.segment_tree.remove.Tie as tie
-use Rattle.sweep_laws.specs.Nodes.{Removing, removing-slot, removing-step, removing-done}
 use mathlib.Core.Path.{_∙_}
 use lib.ListN.{length-set}
+use Rattle.sweep_laws.specs.Nodes.{Removing, removing-slot, removing-step, removing-done}
+use Rattle.sweep.proofs.segment_tree.remove.Statement.{statement}
+use Rattle.sweep.proofs.segment_tree.remove.Tie as tie
 
 abbrev Inv-loop : tie.InvT-loop
-Inv-loop nodes₀ width slot node₀ least₀ nodes node least = Removing width nodes₀ nodes node least
+Inv-loop nodes₀ shape slot node₀ least₀ nodes node least = Removing (shape .kept) (shape .width) nodes₀ nodes node least
 
 abbrev μ-loop : tie.MeasureT-loop
-μ-loop nodes₀ width slot node₀ least₀ nodes node least = node
+μ-loop nodes₀ shape slot node₀ least₀ nodes node least = node
 
 add-node : tie.Need-add-node Inv-loop μ-loop
-add-node c = search needs
+add-node c = omega arith
 
 mul-nodes : tie.Need-mul-nodes Inv-loop μ-loop
-mul-nodes c = search needs
+mul-nodes c = omega arith
 
 slice-write-nodes : tie.Need-slice-write-nodes Inv-loop μ-loop
-slice-write-nodes c = search needs
+slice-write-nodes c = omega arith
 
 loop-holds : tie.Need-loop-holds Inv-loop μ-loop
-loop-holds c = removing-slot _ _ _ (c .before .pre .0) (c .before .pre .1)
+loop-holds c = removing-slot _ _ _ _ (c .before .before .pre .0) (c .before .before .pre .1)
+
+mul-if1 : tie.Need-mul-if1 Inv-loop μ-loop
+mul-if1 c = omega arith
 
 mul-smaller : tie.Need-mul-smaller Inv-loop μ-loop
-mul-smaller c = search needs
+mul-smaller c = omega arith
 
 add-smaller : tie.Need-add-smaller Inv-loop μ-loop
-add-smaller c = search needs
+add-smaller c = omega arith
 
 sub-smaller : tie.Need-sub-smaller Inv-loop μ-loop
-sub-smaller c = search needs
+sub-smaller c = omega arith
 
 mul-smaller-2 : tie.Need-mul-smaller-2 Inv-loop μ-loop
-mul-smaller-2 c = search needs
+mul-smaller-2 c = omega arith
 
 slice-read-smaller : tie.Need-slice-read-smaller Inv-loop μ-loop
-slice-read-smaller c = search needs
+slice-read-smaller c = omega arith
 
 smaller-requires : tie.Need-smaller-requires Inv-loop μ-loop
 smaller-requires c κs = search needs
 
 mul-nodes-2 : tie.Need-mul-nodes-2 Inv-loop μ-loop
-mul-nodes-2 c = search needs
+mul-nodes-2 c = omega arith
 
 slice-write-nodes-2 : tie.Need-slice-write-nodes-2 Inv-loop μ-loop
-slice-write-nodes-2 c = search needs
+slice-write-nodes-2 c = omega arith
 
 loop-less : tie.Need-loop-less Inv-loop μ-loop
-loop-less c = search needs
+loop-less c = omega arith
 
 loop-again : tie.Need-loop-again Inv-loop μ-loop
-loop-again c = removing-step _ _ _ _ _ _ (omega arith) (c .smaller .ensures) (c .before .before .before .loop .inv)
+loop-again c = removing-step _ _ _ _ _ _ _ (c .before .before .if1 .taken) (c .smaller .ensures) (c .before .before .before .before .loop .inv)
 
 same-length : tie.Need-same-length Inv-loop μ-loop
-same-length c = c .before .loop .inv .stored .same ∙ simp length-set
+same-length c = c .before .before .loop .inv .stored .same ∙ simp length-set
 
 returns : tie.Need-returns Inv-loop μ-loop
-returns c = removing-done _ _ _ (c .before .before .before .pre .0) (c .before .before .before .pre .1) _ _ _ (omega arith) (c .before .loop .inv)
+returns c = removing-done _ _ _ _ (c .before .before .before .before .before .pre .0) (c .before .before .before .before .before .pre .1) _ _ _ (c .if1 .left) (c .before .before .loop .inv)
 
 pub remove-spec : {M : Type 1} → statement M
 remove-spec =
@@ -71,6 +74,7 @@ remove-spec =
     mul-nodes
     slice-write-nodes
     loop-holds
+    mul-if1
     mul-smaller
     add-smaller
     sub-smaller

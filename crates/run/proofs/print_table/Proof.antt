@@ -1,0 +1,24 @@
+-- `run::print_table` meets its contract: the passes are made and printed.
+use borrow.Author.Needs.{needs}
+use Rattle.run.proofs.print_table.Statement.{statement}
+use Rattle.run.proofs.print_table.Tie as tie
+use Rattle.passes.proofs.make_passes.Reads as make-passes-reads
+
+make-passes-requires : tie.Need-make-passes-requires
+make-passes-requires c κs = let p = c .before .before .before .before .before .before .before .pre in (p .0, (p .1 .0, p .1 .1 .0))
+
+print-plan-requires : tie.Need-print-plan-requires
+print-plan-requires c κs = let m = c .before .before .before .before .make-passes .ensures in ((_, m .plan, m .totals), c .before .before .before .before .before .before .before .before .before .before .before .before .pre .1 .1 .1)
+
+same-length : tie.Need-same-length
+same-length c = search needs
+
+same-length-2 : tie.Need-same-length-2
+same-length-2 c = search needs
+
+returns : tie.Need-returns
+returns c = let m = c .before .before .before .before .before .before .before .make-passes .ensures in c .before .before .print-plan .ensures _ (m .plan) (m .totals)
+
+pub print-table-spec : {M : Type 1} → statement M
+print-table-spec =
+    tie.close (tie.spec make-passes-requires print-plan-requires same-length same-length-2 returns)

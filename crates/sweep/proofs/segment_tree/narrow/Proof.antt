@@ -1,0 +1,82 @@
+-- On the way up the nodes that are left, with the places taken in so far, have the smallest place of the span.
+use borrow.Author.Needs.{needs}
+use native.Mathlib.Omega.{arith}
+use borrow.Author.Tests.{leb-true}
+use Rattle.sweep_laws.specs.RangeMinimum.{Climbing, climbing-first, climbing-parents}
+use Rattle.sweep.proofs.segment_tree.narrow.Statement.{statement}
+use Rattle.sweep.proofs.segment_tree.narrow.Tie as tie
+
+abbrev Inv-loop : tie.InvT-loop
+Inv-loop nodes shape from to left₀ right₀ least₀ level₀ left right least level = Climbing (shape .kept) (shape .width) nodes from to left right least level
+
+abbrev μ-loop : tie.MeasureT-loop
+μ-loop nodes shape from to left₀ right₀ least₀ level₀ left right least level = right
+
+loop-holds : tie.Need-loop-holds Inv-loop μ-loop
+loop-holds c = climbing-first _ _ _ _ _ (c .before .pre)
+
+mul-if1 : tie.Need-mul-if1 Inv-loop μ-loop
+mul-if1 c = omega arith
+
+mul-smaller : tie.Need-mul-smaller Inv-loop μ-loop
+mul-smaller c = omega arith
+
+shared-slice-read-smaller : tie.Need-shared-slice-read-smaller Inv-loop μ-loop
+shared-slice-read-smaller c = omega arith
+
+sub-smaller : tie.Need-sub-smaller Inv-loop μ-loop
+sub-smaller c = omega arith
+
+mul-smaller-2 : tie.Need-mul-smaller-2 Inv-loop μ-loop
+mul-smaller-2 c = omega arith
+
+shared-slice-read-smaller-2 : tie.Need-shared-slice-read-smaller-2 Inv-loop μ-loop
+shared-slice-read-smaller-2 c = omega arith
+
+smaller-requires : tie.Need-smaller-requires Inv-loop μ-loop
+smaller-requires c κs = search needs
+
+smaller-requires-2 : tie.Need-smaller-requires-2 Inv-loop μ-loop
+smaller-requires-2 c κs = search needs
+
+add-left : tie.Need-add-left Inv-loop μ-loop
+add-left c = omega arith
+
+add-level : tie.Need-add-level Inv-loop μ-loop
+add-level c = omega arith
+
+loop-less : tie.Need-loop-less Inv-loop μ-loop
+loop-less c = omega arith
+
+loop-again : tie.Need-loop-again Inv-loop μ-loop
+loop-again c =
+    rw (c .smaller2 .ensures, c .before .smaller .ensures)
+    (climbing-parents _ _ _ _ _ (c .before .before .before .before .before .before .before .before .before .pre) _ _ _ _ (leb-true _ _ (c .before .before .before .before .if1 .taken)) (c .before .before .before .before .before .before .loop-test .taken) (c .before .before .before .before .before .before .before .loop .inv))
+
+returns : tie.Need-returns Inv-loop μ-loop
+returns c = c .before .before .before .loop .inv
+
+returns-2 : tie.Need-returns-2 Inv-loop μ-loop
+returns-2 c = c .before .loop .inv
+
+pub narrow-spec : {M : Type 1} → statement M
+narrow-spec =
+    tie.close
+    (tie.spec
+    Inv-loop
+    μ-loop
+    loop-holds
+    mul-if1
+    mul-smaller
+    shared-slice-read-smaller
+    sub-smaller
+    mul-smaller-2
+    shared-slice-read-smaller-2
+    smaller-requires
+    smaller-requires-2
+    add-left
+    add-level
+    loop-less
+    loop-again
+    returns
+    returns-2)
