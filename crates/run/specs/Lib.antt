@@ -1,2 +1,4 @@
 pub mod Printing
 pub mod Whole
+pub mod Sound
+pub mod OfPlan
