@@ -51,13 +51,11 @@ extern "C" {
         marks_length: usize,
         partners: *mut u16,
         partners_length: usize,
-        layouts: *mut u16,
-        layouts_length: usize,
+        printed: *mut u16,
+        printed_length: usize,
         work: *mut u16,
         work_length: usize,
-        pairs: *mut u16,
-        singles: *mut u16,
-        visits: *mut u32,
+        totals: *mut u64,
     ) -> u32;
 
     fn murdzeki_plan(
@@ -137,14 +135,10 @@ pub fn stretch(first: &[u16], second: &[u16], out: &mut [u16]) -> usize {
 pub fn plan(
     table: &Table,
     partners: &mut [u16],
-    layouts: &mut [u16],
+    printed: &mut [u16],
     work: &mut [u16],
 ) -> Result<plan::Totals, Refusal> {
-    let mut totals = plan::Totals {
-        pairs: 0,
-        singles: 0,
-        visits: 0,
-    };
+    let mut totals = 0;
     let answer = unsafe {
         harness_plan(
             table.parents.as_ptr(),
@@ -157,16 +151,18 @@ pub fn plan(
             table.marks.len(),
             partners.as_mut_ptr(),
             partners.len(),
-            layouts.as_mut_ptr(),
-            layouts.len(),
+            printed.as_mut_ptr(),
+            printed.len(),
             work.as_mut_ptr(),
             work.len(),
-            &mut totals.pairs,
-            &mut totals.singles,
-            &mut totals.visits,
+            &mut totals,
         )
     };
-    unpacked(answer).map(|()| totals)
+    unpacked(answer).map(|()| plan::Totals {
+        pairs: (totals >> 48) as u16,
+        singles: (totals >> 32) as u16,
+        visits: totals as u32,
+    })
 }
 
 /// The whole run.

@@ -54,20 +54,18 @@ abbrev pub packedPlanned : Planned → ℕ
 packedPlanned (planned.Done p) = 0
 packedPlanned (planned.Refused r) = packedRefusal r
 
--- one of the numbers that a plan gives back; after a refusal what stood there
-abbrev pub givenBack : Planned → (Totals → ℕ) → ℕ → ℕ
-givenBack (planned.Done p) number old = number p
-givenBack (planned.Refused r) number old = old
+-- the totals that a plan gives back in one number; after a refusal what stood there
+abbrev pub packedTotals : Planned → ℕ → ℕ
+packedTotals (planned.Done p) old = p .pairs * 281474976710656 + p .singles * 4294967296 + p .visits
+packedTotals (planned.Refused r) old = old
 
--- the answer of *Plan* taken apart
-pub record PackedPlanned (result : Planned) (pairs singles visits packed pairs′ singles′ visits′ : ℕ) : Type 0 where
+-- the answer of *Plan*, packed
+pub record PackedPlanned (result : Planned) (totals packed totals′ : ℕ) : Type 0 where
   pub packs : packed ≡ packedPlanned result
-  pub pairs-hold : pairs′ ≡ givenBack result (λ (p : Totals). p .pairs) pairs
-  pub singles-hold : singles′ ≡ givenBack result (λ (p : Totals). p .singles) singles
-  pub visits-hold : visits′ ≡ givenBack result (λ (p : Totals). p .visits) visits
+  pub totals-hold : totals′ ≡ packedTotals result totals
 
--- *Plan*, its answer taken apart
-pub record PackedPlan (parents tops bottoms marks partners layouts work : List ℕ) (pairs singles visits packed : ℕ) (partners′ layouts′ work′ : List ℕ) (pairs′ singles′ visits′ : ℕ) : Type 0 where
+-- *Plan*, its answer packed
+pub record PackedPlan (parents tops bottoms marks partners printed work : List ℕ) (totals packed : ℕ) (partners′ printed′ work′ : List ℕ) (totals′ : ℕ) : Type 0 where
   pub result : Planned
-  pub packs : PackedPlanned result pairs singles visits packed pairs′ singles′ visits′
-  pub outcome : PlanOutcome parents tops bottoms marks partners layouts work result partners′ layouts′ work′
+  pub packs : PackedPlanned result totals packed totals′
+  pub outcome : PlanOutcome parents tops bottoms marks partners printed work result partners′ printed′ work′

@@ -94,22 +94,22 @@ pub extern "C" fn harness_stretch<'a>(first: &'a [u16], second: &'a [u16], out: 
     shared.len()
 }
 
-// Takes the answer of *Plan* apart: 0 for done, with pairs, singles and visits written; or the refusal.
-fn packed_planned(answer: Planned, pairs: &mut u16, singles: &mut u16, visits: &mut u32) -> u32
-    ensures { λ r. ⌜ PackedPlanned «answer» (now (pairs .entry)) (now (singles .entry)) (now (visits .entry)) r (now (pairs .exit)) (now (singles .exit)) (now (visits .exit)) ⌝ }
+// Packs the answer of *Plan*: 0 for done, with the totals written as pairs × 2 ^ 48 + singles × 2 ^ 32 + visits; or the refusal.
+fn packed_planned(answer: Planned, totals: &mut u64) -> u32
+    ensures { λ r. ⌜ PackedPlanned «answer» (now (totals .entry)) r (now (totals .exit)) ⌝ }
 {
     match answer {
         Planned::Done(plan) => {
-            *pairs = plan.pairs;
-            *singles = plan.singles;
-            *visits = plan.visits;
+            *totals = plan.pairs as u64 * 281474976710656
+                + plan.singles as u64 * 4294967296
+                + plan.visits as u64;
             0
         }
         Planned::Refused(refusal) => packed_refusal(refusal),
     }
 }
 
-// *Plan*: 0 for done, with pairs, singles and visits in the last three; or a refusal as number × 65536 + place, and these as they were.
+// *Plan*: 0 for done, with the totals packed in the last; or a refusal as number × 65536 + place, and the totals as they were.
 #[no_mangle]
 pub extern "C" fn harness_plan(
     parents: &[u16],
@@ -117,14 +117,12 @@ pub extern "C" fn harness_plan(
     bottoms: &[u16],
     marks: &[u8],
     partners: &mut [u16],
-    layouts: &mut [u16],
+    printed: &mut [u16],
     work: &mut [u16],
-    pairs: &mut u16,
-    singles: &mut u16,
-    visits: &mut u32,
+    totals: &mut u64,
 ) -> u32
-    ensures { λ r. ⌜ PackedPlan (now (parents .entry)) (now (tops .entry)) (now (bottoms .entry)) (now (marks .entry)) (now (partners .entry)) (now (layouts .entry)) (now (work .entry)) (now (pairs .entry)) (now (singles .entry)) (now (visits .entry)) r (now (partners .exit)) (now (layouts .exit)) (now (work .exit)) (now (pairs .exit)) (now (singles .exit)) (now (visits .exit)) ⌝ }
+    ensures { λ r. ⌜ PackedPlan (now (parents .entry)) (now (tops .entry)) (now (bottoms .entry)) (now (marks .entry)) (now (partners .entry)) (now (printed .entry)) (now (work .entry)) (now (totals .entry)) r (now (partners .exit)) (now (printed .exit)) (now (work .exit)) (now (totals .exit)) ⌝ }
 {
-    let answer = planner::plan(parents, tops, bottoms, marks, partners, layouts, work);
-    packed_planned(answer, pairs, singles, visits)
+    let answer = planner::plan(parents, tops, bottoms, marks, partners, printed, work);
+    packed_planned(answer, totals)
 }

@@ -1,4 +1,5 @@
 // The shared stretch of two lists of layout numbers (document 01, "Shared stretch"), handed back as a part of the list that it begins.
+use model::LayoutNumber;
 ghost use mathlib.Core.Path.{_≡_};
 ghost use Rattle.model.specs.Stretch.{agreement, leading, StretchOutcome};
 ghost use Rattle.model.specs.Lists.{indexOf};
@@ -25,22 +26,22 @@ fn leading(list: &[u16], other: &[u16]) -> usize
     if list.len() == 0 {
         return 0;
     }
-    let place = place_of(list[0], other);
-    agreement(list, &other[place..])
+    let from = position_of(LayoutNumber(list[0]), other);
+    agreement(list, &other[from..])
 }
 
-// The place where `number` first stands in `list`; the length where it does not stand there.
-fn place_of(number: u16, list: &[u16]) -> usize
-    ensures { λ r. ⌜ r ≡ indexOf number (now (list .entry)) ⌝ }
+// The position at which a layout first stands in `list`; the length where it does not stand there.
+fn position_of(layout: LayoutNumber, list: &[u16]) -> usize
+    ensures { λ r. ⌜ r ≡ indexOf (layout .0) (now (list .entry)) ⌝ }
 {
-    let mut place = 0;
-    while place < list.len() {
-        if list[place] == number {
-            return place;
+    let mut position = 0;
+    while position < list.len() {
+        if list[position] == layout.0 {
+            return position;
         }
-        place += 1;
+        position += 1;
     }
-    place
+    position
 }
 
 // How many leading numbers are the same in both lists.

@@ -1,5 +1,5 @@
--- `leading` answers its definition: the place is at most the length, so what stands from it on is a part of the other list, and the agreement
--- with that part is asked of `agreement`. Assumes nothing.
+-- `leading` answers its definition: the position is at most the length, so what stands from it on is a part of the other list, and the agreement
+-- with that part is asked of `agreement`.
 use Prim.Native.Nat.{ℕ, _≤_}
 use mathlib.Core.Path.{ap, _∙_}
 use native.Mathlib.Omega.{arith}
@@ -18,17 +18,17 @@ returns c =
     let args = c .before .before .before .args in
     leading-none (now (args .list)) (now (args .other)) (c .if1 .taken)
 
-shared-slice-read-place-of : tie.Need-shared-slice-read-place-of
-shared-slice-read-place-of c = search needs
+shared-slice-read-t7 : tie.Need-shared-slice-read-t7
+shared-slice-read-t7 c = search needs
 
-place-of-requires : tie.Need-place-of-requires
-place-of-requires c κs = search needs
+position-of-requires : tie.Need-position-of-requires
+position-of-requires c κs = search needs
 
--- the place is at most the length
-within : (c : tie.After-place-of) → c .place-of .result ≤ length (now (c .before .before .before .before .before .args .other))
+-- the position is at most the length
+within : (c : tie.After-position-of) → c .position-of .result ≤ length (now (c .before .before .before .before .before .args .other))
 within c =
     let args = c .before .before .before .before .before .args in
-    rw (c .place-of .ensures) (indexOf-le (getD (now (args .list)) 0 0) (now (args .other)))
+    rw (c .position-of .ensures) (indexOf-le (getD (now (args .list)) 0 0) (now (args .other)))
 
 mul-agreement : tie.Need-mul-agreement
 mul-agreement c = omega (arith, within c)
@@ -47,14 +47,14 @@ agreement-requires c κs = search needs
 
 returns-2 : tie.Need-returns-2
 returns-2 c =
-    let at-place = c .before .before in
-    let test = at-place .before .before in
+    let at-position = c .before .before in
+    let test = at-position .before .before in
     let args = test .before .before .before .args in
     let list = now (args .list) in
     let other = now (args .other) in
     c .agreement .ensures
-    ∙ ap (agreement list) (part-to-end other (at-place .place-of .result))
-    ∙ ap (λ (n : ℕ). agreement list (drop n other)) (at-place .place-of .ensures)
+    ∙ ap (agreement list) (part-to-end other (at-position .position-of .result))
+    ∙ ap (λ (n : ℕ). agreement list (drop n other)) (at-position .position-of .ensures)
     ∙ leading-from list other (test .if1 .left)
 
 pub leading-spec : {M : Type 1} → statement M
@@ -62,8 +62,8 @@ leading-spec =
     tie.close
     (tie.spec
     returns
-    shared-slice-read-place-of
-    place-of-requires
+    shared-slice-read-t7
+    position-of-requires
     mul-agreement
     sub-agreement
     part-agreement-start
