@@ -16,12 +16,12 @@ use Rattle.model.specs.Order.{place}
 use Rattle.model.specs.Rival.{Pair, Rules, Rival, inFront, pairsInFront, pairsOf, passesOf, MaximumAtEveryCut}
 use Rattle.model.specs.Planning.{partnerIn, partners, pairs, singles}
 use Rattle.model.specs.Greedy.{passes}
-use Rattle.tree_laws.specs.Lists.{answers, mem-all}
-use Rattle.tree_laws.specs.Numbers.{numbers-mem, numbers-length}
+use Rattle.laws.specs.Booleans.{answers}
+use Rattle.laws.specs.Lists.{mem-all, all-imply}
+use Rattle.laws.specs.Numbers.{numbers-mem, numbers-length}
 use Rattle.tree_laws.specs.WellFormed.{Tree}
 use Rattle.tree_laws.specs.Sharing.{Downward}
-use Rattle.matching.specs.Lists.{all-imply}
-use Rattle.matching.specs.Counting.{count-all}
+use Rattle.laws.specs.Counting.{count-all}
 use Rattle.matching.specs.RunningOrder.{place-lt}
 use Rattle.matching.specs.Partners.{jobs-counted, partner-apart, partners-symmetric, our-pairs, our-pairs-all}
 use Rattle.matching.specs.Demand.{maximum-at-every-cut}

@@ -3,7 +3,7 @@
 use Prim.Native.Nat.{ℕ, suc, _+_, _*_, _-_, _≤_, _<_}
 use mathlib.Core.Path.{_≡_, refl, sym, ap, _∙_}
 use mathlib.Core.Logic.{_⊎_, inl, inr, ⊎-elim, _≢_}
-use mathlib.Core.Bool.{Bool, true, false, cond, _&&_, and-comm, and-false}
+use mathlib.Core.Bool.{Bool, true, false, cond, _&&_, and-comm, and-false, and-eq-true-iff}
 use mathlib.Core.List.{List, [], _∷_, List·Memᴰ as Mem, List·Memᴰ·head as here, List·Memᴰ·tail as there, List·Memᴰ·not-nil as not-nil, List·Memᴰ·cases-cons as mem-cons}
 use native.Mathlib.Decide.{decLt, ℕ-discrete}
 use native.Mathlib.Omega.{arith}
@@ -17,12 +17,12 @@ use Rattle.model.specs.Order.{runningOrder, place}
 use Rattle.model.specs.Greedy.{Pass, pair, single, compatible, passes}
 use Rattle.model.specs.Rival.{Pair, Disjoint, Rules, Rival, inFront, pairsInFront, pairsOf}
 use Rattle.model.specs.Planning.{partnerIn, partners, pairs, singles}
-use Rattle.tree_laws.specs.Lists.{Distinct, all-mem, mem-all, pairwise-imply, select-mem, mem-select, select-pairwise}
+use Rattle.laws.specs.Lists.{Distinct, all-mem, mem-all, pairwise-imply, select-mem, mem-select, select-pairwise, map-all, map-mem, map-pairwise}
 use Rattle.matching.specs.Compatible.{compatible-true, compatible-symmetric}
-use Rattle.matching.specs.Counting.{count-length-all, count-agree, count-none, count-all, count-select, count-map, count-at}
+use Rattle.laws.specs.Counting.{count-length-all, count-agree, count-none, count-all, count-select, count-map, count-at}
 use Rattle.matching.specs.Passes.{passes-counted, pairsIn, vertices, pairs-length, greedy-distinct, greedy-mem, mem-greedy, greedy-count, greedy-fits, greedy-places}
-use Rattle.matching.specs.Lists.{and-both, true-T, all-member, member-all, map-all, map-mem, map-pairwise}
-use Rattle.tree_laws.specs.Numbers.{mem-numbers, numbers-mem, numbers-at, numbers-rise, numbers-distinct}
+use Rattle.laws.specs.Booleans.{true-T}
+use Rattle.laws.specs.Numbers.{mem-numbers, numbers-mem, numbers-at, numbers-rise, numbers-distinct}
 use Rattle.matching.specs.RunningOrder.{running-mem, mem-running, running-length, running-distinct, place-lt}
 
 -- i and j are a pair of the passes, in one order or the other
@@ -193,7 +193,7 @@ module _ (n : ℕ) (cells : List ℕ) where
   our-cell : {i : ℕ} → Mem i (select ours (numbers n)) → (i < n) × (i < cell cells i) × (cell cells i < n)
   our-cell {i} m =
       let r = select-mem ours (numbers n) m in
-      let t = and-both (ltb i (cell cells i)) (ltb (cell cells i) n) (r .1) in
+      let t = and-eq-true-iff (ltb i (cell cells i)) (ltb (cell cells i) n) .0 (r .1) in
       (numbers-mem n (r .0), ltb-true i (cell cells i) (t .0), ltb-true (cell cells i) n (t .1))
 
   -- what holds of every i and its cell, where that is a greater number below n, holds of the pairs
@@ -289,13 +289,13 @@ module _ (tb : Table) where
         ⊎-elim not-both not-both (rw (← ap (Joined (passes tb) i) self) (partner-joined (passes tb) i (present i h (rw e h))))
       where
         not-both : Mem (record { one = i; other = i }) (pairsIn (passes tb)) → ⊥
-        not-both m = omega (arith, all-member (λ (p : Pair). place tb (p .one) < place tb (p .other)) passes-places m)
+        not-both m = omega (arith, all-mem (λ (p : Pair). place tb (p .one) < place tb (p .other)) passes-places m)
 
     -- such two jobs are compatible
     pub cell-compatible : (i : ℕ) → i < jobs tb → getD (partners tb) i FFFF < jobs tb → compatible tb i (getD (partners tb) i FFFF) ≡ true
     cell-compatible i h k = rw (partner-cell i h) (⊎-elim
-        (λ m. all-member (λ (p : Pair). compatible tb (p .one) (p .other) ≡ true) passes-compatible m)
-        (λ m. compatible-symmetric tb i (partnerIn (passes tb) i) ∙ all-member (λ (p : Pair). compatible tb (p .one) (p .other) ≡ true) passes-compatible m)
+        (λ m. all-mem (λ (p : Pair). compatible tb (p .one) (p .other) ≡ true) passes-compatible m)
+        (λ m. compatible-symmetric tb i (partnerIn (passes tb) i) ∙ all-mem (λ (p : Pair). compatible tb (p .one) (p .other) ≡ true) passes-compatible m)
         (partner-joined (passes tb) i (present i h k)))
 
     -- our pairs, read from the partner buffer, keep the rules of a rival plan
@@ -354,7 +354,7 @@ module _ (tb : Table) where
     pub our-pairs-all : pairsInFront tb (jobs tb) (pairsOf (jobs tb) (partners tb)) ≡ pairs tb
     unfolding pairs inFront
     our-pairs-all = our-pairs-in-front (jobs tb)
-        ∙ count-all (inFront tb (jobs tb)) (pairsIn (passes tb)) (member-all (λ (p : Pair). inFront tb (jobs tb) p ≡ true) (pairsIn (passes tb)) (λ p m. front p (pair-vertices (passes tb) m)))
+        ∙ count-all (inFront tb (jobs tb)) (pairsIn (passes tb)) (mem-all (λ (p : Pair). inFront tb (jobs tb) p ≡ true) (pairsIn (passes tb)) (λ p m. front p (pair-vertices (passes tb) m)))
         ∙ pairs-length (passes tb)
       where
         in-order : {j : ℕ} → Mem j (vertices (passes tb)) → place tb j < jobs tb

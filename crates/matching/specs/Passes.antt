@@ -13,9 +13,9 @@ use Rattle.model.specs.Lists.{indexOf, find, total, All, AllPairs}
 use Rattle.model.specs.Greedy.{Pass, pair, single, without, turn, turns, greedy}
 use Rattle.model.specs.Rival.{Pair}
 use Rattle.model.specs.Planning.{pairCount, singleCount}
-use Rattle.tree_laws.specs.Lists.{Distinct, all-mem, mem-all}
-use Rattle.matching.specs.Lists.{found-or-none, find-some, without-mem, mem-without, without-pairwise, without-length, without-one}
-use Rattle.matching.specs.Places.{index-rises}
+use Rattle.laws.specs.Lists.{Distinct, all-mem, mem-all, found-or-none, find-some}
+use Rattle.matching.specs.Without.{without-mem, mem-without, without-pairwise, without-length, without-one}
+use Rattle.laws.specs.Places.{index-rises}
 
 -- the pairs of the passes, in order
 unfoldable pub pairsIn : List Pass → List Pair

@@ -12,8 +12,9 @@ use lib.ListN.{length, take, drop, take-append-drop, length-append}
 use Rattle.model.specs.Lists.{elem, find, select, All}
 use Rattle.model.specs.Greedy.{without, turns, greedy}
 use Rattle.model.specs.Rival.{Pair}
-use Rattle.tree_laws.specs.Lists.{Distinct, answers, all-mem, mem-all, pairwise-across, elem-mem, mem-elem}
-use Rattle.matching.specs.Lists.{found-or-none, find-some, find-left, find-right, without-mem, without-none, without-append}
+use Rattle.laws.specs.Lists.{Distinct, all-mem, mem-all, pairwise-across, elem-mem, mem-elem, found-or-none, find-some, find-left, find-right}
+use Rattle.laws.specs.Booleans.{answers}
+use Rattle.matching.specs.Without.{without-mem, without-none, without-append}
 use Rattle.matching.specs.Passes.{pairsIn, turn-with, turn-alone, turns-greedy}
 
 -- both vertices of a pair lie inside

@@ -11,8 +11,9 @@ use native.Mathlib.Omega.{arith}
 use Rattle.model.specs.Lists.{find, select, total, All, AllPairs}
 use Rattle.model.specs.Greedy.{Pass, pair, single, without, greedy}
 use Rattle.model.specs.Planning.{pairCount}
-use Rattle.tree_laws.specs.Lists.{answers}
-use Rattle.matching.specs.Lists.{find-some, without-mem, without-pairwise, without-drop, without-keep}
+use Rattle.laws.specs.Booleans.{answers}
+use Rattle.laws.specs.Lists.{find-some}
+use Rattle.matching.specs.Without.{without-mem, without-pairwise, without-drop, without-keep}
 use Rattle.matching.specs.Passes.{greedy-done, greedy-with, greedy-alone, Run, done, joined, alone, greedy-run}
 
 -- a pass by the names of its vertices

@@ -4,22 +4,22 @@ use Prim.Native.Nat.{ℕ, zero, suc, _+_, _-_, _<_, _≤_}
 use mathlib.Core.Path.{_≡_, refl, sym, ap, _∙_}
 use mathlib.Core.Logic.{⊎-elim, _↔_}
 use mathlib.Core.Bool.{Bool, true, _&&_, and-false}
-use mathlib.Core.List.{List, [], _∷_, headD, List·Memᴰ as Mem}
+use mathlib.Core.List.{List, [], _∷_, List·Memᴰ as Mem}
 use native.Mathlib.Omega.{arith}
 use native.Mathlib.Decide.{decLt}
-use lib.ListN.{length, getD}
+use lib.ListN.{getD}
 use lib.Dec.{ltb, leb}
 use borrow.Author.Tests.{lt-ltb, le-ltb, le-leb, lt-leb, ltb-true}
-use Rattle.model.specs.Lists.{numbersFrom, numbers, select, countWhere, All}
+use Rattle.model.specs.Lists.{numbersFrom, numbers, select, countWhere}
 use Rattle.model.specs.Tree.{firstLeaf, lastLeaf}
 use Rattle.model.specs.Jobs.{Table, jobs, top, bottomLeaf}
 use Rattle.model.specs.Order.{leftward, slotOrder, slot, place}
 use Rattle.model.specs.Visits.{asksFor, askedSlots, askedFrom, askedTo}
-use Rattle.tree_laws.specs.Lists.{getD-mem, mem-all, range-mem, mem-range}
-use Rattle.tree_laws.specs.Numbers.{numbers-mem}
+use Rattle.laws.specs.Lists.{getD-mem, mem-all, select-agree}
+use Rattle.laws.specs.Numbers.{range-mem, mem-range, numbers-mem, range-head, range-length}
 use Rattle.tree_laws.specs.Spans.{ancestor-span}
 use Rattle.matching.specs.RunningOrder.{lexicographic-true, lexicographic-first, leftward-order, slots-mem, slots-length, slot-count, slot-of-job}
-use Rattle.matching.specs.Sorting.{irreflexive}
+use Rattle.laws.specs.Sorting.{irreflexive}
 use Rattle.jobs.specs.Accepted.{Accepted}
 use Rattle.schedule_laws.specs.Counts.{count-bound, count-le, count-lt}
 
@@ -28,11 +28,6 @@ use Rattle.schedule_laws.specs.Counts.{count-bound, count-le, count-lt}
 -- s lies from `from` up to `to`
 abbrev between : ℕ → ℕ → ℕ → Bool
 between from to s = leb from s && ltb s to
-
-select-agree : (p q : ℕ → Bool) (l : List ℕ) → All (λ (x : ℕ). p x ≡ q x) l → select p l ≡ select q l
-unfolding select
-select-agree p q [] a = refl
-select-agree p q (x ∷ xs) a = rw (a .0, select-agree p q xs (a .1)) refl
 
 module _ (from to : ℕ) where
   -- of the numbers from a on those between: none where a is past the end, all up to the end where a is past the start
@@ -61,16 +56,6 @@ module _ (from to : ℕ) where
       go a n zero e k l = let same : a ≡ from = omega arith in rw same (select-inside from n (omega arith) h (omega arith))
       go a zero (suc d) e k l = absurd (omega arith)
       go a (suc n) (suc d) e k l = rw (lt-leb from a (omega arith)) (go (suc a) n d (omega arith) (omega arith) (omega arith))
-
-range-head : (a n d : ℕ) → 0 < n → headD (numbersFrom a n) d ≡ a
-unfolding numbersFrom headD
-range-head a zero d h = absurd (omega arith)
-range-head a (suc n) d h = refl
-
-range-length : (a n : ℕ) → length (numbersFrom a n) ≡ n
-unfolding numbersFrom
-range-length a zero = refl
-range-length a (suc n) = ap suc (range-length (suc a) n)
 
 -- ---- the slots by first leaf
 

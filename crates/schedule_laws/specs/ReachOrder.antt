@@ -3,7 +3,7 @@
 use Prim.Native.Nat.{ℕ, suc, _<_, _≤_}
 use mathlib.Core.Path.{_≡_, refl, sym, ap, _∙_}
 use mathlib.Core.Logic.{⊎-elim, _≢_}
-use mathlib.Core.Bool.{Bool, true, false, _&&_}
+use mathlib.Core.Bool.{Bool, true, false, _&&_, and-eq-true-iff}
 use mathlib.Core.List.{List, [], _∷_, List·Memᴰ as Mem}
 use native.Mathlib.Omega.{arith}
 use native.Mathlib.Decide.{ℕ-discrete}
@@ -12,13 +12,13 @@ use lib.Dec.{leb}
 use borrow.Author.Tests.{le-leb, leb-true}
 use Rattle.model.specs.Lists.{numbers, elem, indexOf, select, countWhere, All, AllPairs}
 use Rattle.model.specs.Jobs.{Table, jobs, topDepth}
-use Rattle.tree_laws.specs.Lists.{Distinct, answers, same-test, all-mem, mem-all, elem-mem, mem-elem, select-mem, mem-select, select-pairwise, getD-mem, pairwise-imply}
-use Rattle.tree_laws.specs.Numbers.{mem-numbers, numbers-mem, numbers-distinct}
+use Rattle.laws.specs.Lists.{Distinct, all-mem, mem-all, elem-mem, mem-elem, select-mem, mem-select, select-pairwise, getD-mem, pairwise-imply}
+use Rattle.laws.specs.Booleans.{answers, same-test}
+use Rattle.laws.specs.Numbers.{mem-numbers, numbers-mem, numbers-distinct}
 use Rattle.tree_laws.specs.Chain.{ancestor-depth}
-use Rattle.matching.specs.Lists.{and-both}
-use Rattle.matching.specs.Counting.{count-none, count-all, count-length, count-select}
-use Rattle.matching.specs.Places.{index-getD, index-take}
-use Rattle.matching.specs.Sorting.{StrictOrder, Before, sort-mem, mem-sort, sort-length, sort-count, sort-sorted, sort-rank, sorted-distinct}
+use Rattle.laws.specs.Counting.{count-none, count-all, count-length, count-select}
+use Rattle.laws.specs.Places.{index-getD, index-take}
+use Rattle.laws.specs.Sorting.{StrictOrder, Before, sort-mem, mem-sort, sort-length, sort-count, sort-sorted, sort-rank, sorted-distinct}
 use Rattle.matching.specs.RunningOrder.{lexicographic-true, lexicographic-asymmetric, lexicographic-falling, lexicographic-total}
 use Rattle.schedule.specs.OfTable.{jobAt, asking, bottomDepth, sooner, reachOrder, due}
 use Rattle.jobs.specs.Accepted.{Accepted}
@@ -116,7 +116,7 @@ module _ (tb : Table) where
       rw (due-part p)
       (same-test (elem q (select (deep p) (reachOrder tb))) (asking tb q && deep p q)
       (λ e. let s = select-mem (deep p) (reachOrder tb) (elem-mem q (select (deep p) (reachOrder tb)) e) in rw (reach-mem (s .0) .1, s .1) refl)
-      (λ e. let b = and-both (asking tb q) (deep p q) e in mem-elem (mem-select (deep p) (mem-reach q h (b .0)) (b .1))))
+      (λ e. let b = and-eq-true-iff (asking tb q) (deep p q) .0 e in mem-elem (mem-select (deep p) (mem-reach q h (b .0)) (b .1))))
 
   pub due-within : (p : ℕ) → due tb p ≤ length (reachOrder tb)
   unfolding due

@@ -17,15 +17,16 @@ use Rattle.model.specs.Order.{slot}
 use Rattle.model.specs.Greedy.{compatible, passes}
 use Rattle.model.specs.Visits.{levels, askedFrom, askedTo, lookupVisits, passVisits, cellCount}
 use Rattle.model.specs.Planning.{pairCount, pairs}
-use Rattle.tree_laws.specs.Lists.{answers, pairwise-imply}
-use Rattle.tree_laws.specs.Numbers.{numbers-length, numbers-at, numbers-mem, numbers-rise}
-use Rattle.matching.specs.Places.{index-getD}
+use Rattle.laws.specs.Booleans.{answers}
+use Rattle.laws.specs.Lists.{pairwise-imply}
+use Rattle.laws.specs.Numbers.{numbers-length, numbers-at, numbers-mem, numbers-rise}
+use Rattle.laws.specs.Places.{index-getD}
 use Rattle.matching.specs.RunningOrder.{slot-lt, slot-injective}
 use Rattle.matching.specs.Renamed.{renamed, greedy-renamed, pairs-renamed, total-renamed}
 use Rattle.schedule.specs.Schedule.{places, slotAt, fromAt, toAt, dueAt, fits, passesByPlace, visitsAt, visitsOf, totalVisits, Sound}
 use Rattle.schedule.specs.OfTable.{jobAt, asking, bottomDepth, reachOrder, due, scheduleOf}
 use Rattle.jobs.specs.Accepted.{Accepted}
-use Rattle.schedule_laws.specs.Levels.{levels-wide}
+use Rattle.laws.specs.Levels.{levels-wide}
 use Rattle.schedule_laws.specs.Counts.{count-bound}
 use Rattle.schedule_laws.specs.Places.{job-known, job-once, running-list, later-depth, theorem-6-ordered}
 use Rattle.schedule_laws.specs.Asked.{asked-slot, asked-bound, asks-itself}

@@ -11,18 +11,19 @@ use lib.ListN.{length, getD, take, drop, drop-of-length-le}
 use lib.Seq.{drop-cons, length-take-le}
 use Rattle.model.specs.Stretch.{agreement, leading, Stretch, stretchOf, begun, numbersOf, StretchOutcome}
 use Rattle.model.specs.Lists.{indexOf}
-use Rattle.stretch.specs.StretchLaws.{indexOf-here, indexOf-later, agreement-same, agreement-differs, agreement-nil, leading-le}
+use Rattle.stretch.specs.StretchLaws.{agreement-same, agreement-differs, agreement-nil, leading-le}
+use Rattle.laws.specs.Places.{index-here, index-there}
 
 -- x does not stand in the first n of ys
 module _ (x : ℕ) (ys : List ℕ) (n : ℕ) (walked : n + indexOf x (drop n ys) ≡ indexOf x ys) where
   pub place-found : n < length ys → getD ys n 0 ≡ x → n ≡ indexOf x ys
   place-found h e =
-      let here : indexOf x (drop n ys) ≡ 0 = rw (drop-cons ys n 0 h) (indexOf-here x _ _ e) in
+      let here : indexOf x (drop n ys) ≡ 0 = rw (drop-cons ys n 0 h) (index-here _ (sym e)) in
       omega arith
 
   pub place-next : n < length ys → (getD ys n 0 ≡ x → ⊥) → (n + 1) + indexOf x (drop (n + 1) ys) ≡ indexOf x ys
   place-next h e =
-      let later : indexOf x (drop n ys) ≡ suc (indexOf x (drop (n + 1) ys)) = rw (drop-cons ys n 0 h, add-one) (indexOf-later x _ _ e) in
+      let later : indexOf x (drop n ys) ≡ suc (indexOf x (drop (n + 1) ys)) = rw (drop-cons ys n 0 h, add-one) (index-there _ (λ s. e (sym s))) in
       omega arith
 
   pub place-absent : length ys ≤ n → n ≡ indexOf x ys

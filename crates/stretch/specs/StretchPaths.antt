@@ -11,7 +11,8 @@ use lib.ListN.{length, getD, take, drop, length-drop}
 use lib.Seq.{getD-drop, getD-take, length-take-le, ext-getD}
 use Rattle.model.specs.Stretch.{agreement, leading, Stretch, stretchOf, numbersOf}
 use Rattle.model.specs.Lists.{indexOf}
-use Rattle.stretch.specs.StretchLaws.{indexOf-stands, indexOf-first, agreement-longest, leading-agrees, leading-within, leading-le, stretch-first, stretch-second, stretch-cases}
+use Rattle.stretch.specs.StretchLaws.{agreement-longest, leading-agrees, leading-within, leading-le, stretch-first, stretch-second, stretch-cases}
+use Rattle.laws.specs.Places.{index-stands, index-first}
 
 -- x stands somewhere in xs
 pub record Stands (x : ℕ) (xs : List ℕ) : Type 0 where
@@ -58,12 +59,12 @@ meet-ancestor above xs ys p q (suc d) i j m n em en hm hn e =
 path-place : (above : ℕ → ℕ) (ys : List ℕ) → Descending above ys → (p : ℕ) → p < length ys → indexOf (getD ys p 0) ys ≡ p
 path-place above ys path p h =
     ⊎-elim (λ l. ⊎-elim (λ g. omega arith) (λ g. absurd (before g)) (le-or-lt p (indexOf (getD ys p 0) ys)))
-    (λ g. absurd (indexOf-first (getD ys p 0) ys p g refl))
+    (λ g. absurd (index-first (getD ys p 0) ys p g refl))
     (le-or-lt (indexOf (getD ys p 0) ys) p)
   where
     before : indexOf (getD ys p 0) ys < p → ⊥
     before l =
-        let same : getD ys (indexOf (getD ys p 0) ys) 0 ≡ getD ys p 0 = indexOf-stands (getD ys p 0) ys (omega arith) in
+        let same : getD ys (indexOf (getD ys p 0) ys) 0 ≡ getD ys p 0 = index-stands (getD ys p 0) ys (omega arith) in
         let less : getD ys (indexOf (getD ys p 0) ys) 0 < getD ys p 0 =
         rises above ys path (p - suc (indexOf (getD ys p 0) ys)) (indexOf (getD ys p 0) ys) p (omega arith) h in
         omega arith
@@ -113,7 +114,7 @@ module _ (above : ℕ → ℕ) (xs ys : List ℕ) (p : Descending above xs) (q :
           let top : getD xs (i - j) 0 ≡ getD ys 0 0 = meet-ancestor above xs ys p q j (i - j) 0 i j (omega arith) (omega arith) h l met in
           let less : getD xs 0 0 < getD xs (i - j) 0 = rises above xs p (i - j - 1) 0 (i - j) (omega arith) (omega arith) in
           let within : place + 0 < length ys = leading-within xs ys 0 some in
-          let same : getD ys place 0 ≡ getD xs 0 0 = indexOf-stands (getD xs 0 0) ys (omega arith) in
+          let same : getD ys place 0 ≡ getD xs 0 0 = index-stands (getD xs 0 0) ys (omega arith) in
           let least : getD ys 0 0 ≤ getD ys place 0 =
           ⊎-elim (λ e. rw e (le-refl _)) (λ g. le-of-lt (rises above ys q (place - 1) 0 place (omega arith) (omega arith))) (eq-zero-or-pos place) in
           omega arith

@@ -12,7 +12,7 @@ use lib.Dec.{eqb}
 use borrow.Author.Tests.{eqb-true, eq-eqb}
 use Rattle.model.specs.Lists.{elem}
 use Rattle.model.specs.Tree.{ascend, ancestors, ancestorOrSelf, depth}
-use Rattle.tree_laws.specs.Lists.{or-cases, or-right}
+use Rattle.laws.specs.Booleans.{or-cases, or-right}
 use Rattle.tree_laws.specs.WellFormed.{Tree}
 
 -- u is x or lies above it, step by step
@@ -150,3 +150,19 @@ module _ (ps : List ℕ) (t : Tree ps) where
   pub true-ancestor : {u x : ℕ} → AncestorOrSelf ps u x → ancestorOrSelf ps u x ≡ true
   true-ancestor {u} self = self-ancestor u
   true-ancestor (up {u = u} {x = x} h a) = ancestor-step u x h ∙ or-right (eqb u x) (ancestorOrSelf ps u (getD ps x 0)) (true-ancestor a)
+
+-- ---- how many
+
+-- n steps up meet at most n layouts more
+ascend-length : (n : ℕ) (ps : List ℕ) (x : ℕ) → length (ascend n ps x) ≤ suc n
+unfolding ascend
+ascend-length zero ps x = omega arith
+ascend-length (suc n) ps zero = omega arith
+ascend-length (suc n) ps (suc x) = omega (arith, ascend-length n ps (getD ps (suc x) 0))
+
+-- a layout is no deeper than its number
+pub depth-le : (ps : List ℕ) (x : ℕ) → depth ps x ≤ x
+unfolding depth ancestors
+depth-le ps x =
+    let h : pred (length (ascend x ps x)) ≤ x = omega (arith, ascend-length x ps x) in
+    h

@@ -11,7 +11,8 @@ use lib.Dec.{eqb}
 use borrow.Author.Tests.{eqb-true, eq-eqb}
 use Rattle.model.specs.Lists.{numbers, AllPairs}
 use Rattle.model.specs.Tree.{FFFF, depth, children}
-use Rattle.tree_laws.specs.Lists.{getD-inside, all-mem, mem-range, range-mem, range-rises, select-mem, mem-select, select-pairwise, pairwise-right, pairwise-across}
+use Rattle.laws.specs.Lists.{getD-inside, all-mem, select-mem, mem-select, select-pairwise, pairwise-right, pairwise-across}
+use Rattle.laws.specs.Numbers.{mem-range, range-mem, range-rises}
 use Rattle.tree_laws.specs.WellFormed.{Tree}
 use Rattle.tree_laws.specs.Chain.{AncestorOrSelf, self, up, ancestor-trans, ancestor-same, depth-child}
 

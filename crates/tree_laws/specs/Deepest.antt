@@ -11,7 +11,7 @@ use lib.ListN.{getD}
 use Rattle.model.specs.Lists.{elem, AllPairs}
 use Rattle.model.specs.Tree.{FFFF, depth}
 use Rattle.model.specs.Jobs.{Table, bottom, pathFrom, path, shares, deepestShared}
-use Rattle.tree_laws.specs.Lists.{mem-all, mem-elem, elem-mem, any-mem, select-mem, mem-select, select-pairwise, head-mem, head-first}
+use Rattle.laws.specs.Lists.{mem-all, mem-elem, elem-mem, any-mem, select-mem, mem-select, select-pairwise, head-mem, head-first}
 use Rattle.tree_laws.specs.WellFormed.{Tree}
 use Rattle.tree_laws.specs.Chain.{AncestorOrSelf, self, up, ancestor-trans, ancestor-linear}
 use Rattle.tree_laws.specs.Sharing.{path-one, path-up, path-ancestor, ancestor-path, Downward, On}

@@ -8,7 +8,7 @@ use native.Mathlib.Decide.{decLe}
 use native.Mathlib.Omega.{arith}
 use lib.ListN.{length, getD, length-append}
 use Rattle.model.specs.Tree.{children, orSelf, leavesWithin, leaves, firstLeaf, lastLeaf, depth}
-use Rattle.tree_laws.specs.Lists.{Distinct, pairwise-imply, mem-all, mem-split, flat-mem, flat-agree, flat-append, flat-distinct, first-place, last-place, distinct-bound}
+use Rattle.laws.specs.Lists.{Distinct, pairwise-imply, mem-all, mem-split, flat-mem, flat-agree, flat-append, flat-distinct, first-place, last-place, distinct-bound}
 use Rattle.tree_laws.specs.WellFormed.{Tree}
 use Rattle.tree_laws.specs.Chain.{AncestorOrSelf, self, up, ancestor-root, ancestor-linear}
 use Rattle.tree_laws.specs.Children.{child-parent, parent-child, child-greater, child-ancestor, child-unique, children-rise}

@@ -14,7 +14,8 @@ use borrow.Author.Tests.{eqb-true, eq-eqb, ne-eqb}
 use Rattle.model.specs.Lists.{elem}
 use Rattle.model.specs.Tree.{depth, firstLeaf, lastLeaf}
 use Rattle.model.specs.Jobs.{Table, top, bottom, upTo, pathFrom, path, shares, topDepth, bottomLeaf}
-use Rattle.tree_laws.specs.Lists.{same-test, or-cases, or-right, elem-mem, mem-elem, any-mem, mem-any}
+use Rattle.laws.specs.Booleans.{same-test, or-cases, or-right}
+use Rattle.laws.specs.Lists.{elem-mem, mem-elem, any-mem, mem-any}
 use Rattle.tree_laws.specs.WellFormed.{Tree}
 use Rattle.tree_laws.specs.Chain.{AncestorOrSelf, self, up, ancestors-root, ancestors-child, ancestor-trans, ancestor-cases, ancestor-le, ancestor-linear}
 use Rattle.tree_laws.specs.Spans.{InSpan, inSpan, in-span-true, true-in-span, ancestor-span, span-ancestor}

@@ -11,7 +11,8 @@ use lib.ListN.{length, getD, length-append}
 use lib.Dec.{leb}
 use borrow.Author.Tests.{leb-true, le-leb}
 use Rattle.model.specs.Tree.{ancestorOrSelf, depth, leaves, firstLeaf, lastLeaf}
-use Rattle.tree_laws.specs.Lists.{piece-mem, same-test}
+use Rattle.laws.specs.Lists.{piece-mem}
+use Rattle.laws.specs.Booleans.{same-test}
 use Rattle.tree_laws.specs.WellFormed.{Tree}
 use Rattle.tree_laws.specs.Chain.{AncestorOrSelf, self, ancestor-le, ancestor-depth, ancestor-linear, ancestor-same, ancestor-true, true-ancestor}
 use Rattle.tree_laws.specs.Leaves.{leaves-nonempty, leaf-ancestor, part-of, segment, first-at, last-at, last-is}
