@@ -1,5 +1,4 @@
 -- Laws of digits in the shapes that the code asks: one byte, the four digits of a field, the two of a kind.
--- Assumes nothing.
 use Prim.Native.Nat.{ℕ, _+_, _-_, _*_, _<_, _≤_}
 use mathlib.Core.Path.{_≡_, refl, sym, _∙_}
 use mathlib.Core.Logic.{_⊎_, inl, inr, ⊎-elim, _≢_}

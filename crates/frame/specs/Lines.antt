@@ -1,5 +1,5 @@
 -- What the bytes at fixed positions tell of the first line: n digits and then 0A are a line, and where neither 6 nor 10 digits stand
--- before a 0A, the first line is no frame, however long it is. Assumes nothing.
+-- before a 0A, the first line is no frame, however long it is.
 use Prim.Native.Nat.{ℕ, zero, suc, _+_, _<_, _≤_}
 use mathlib.Core.Path.{_≡_, refl, sym, ap, subst, _∙_}
 use mathlib.Core.Bool.{Bool, true, false, cond, _||_, _&&_, true≢false, and-true, and-false, and-eq-true-iff}

@@ -4,8 +4,7 @@ use mathlib.Core.Path.{_≡_, refl, sym, ap, _∙_, subst}
 use mathlib.Core.Bool.{Bool, true, false, not, _||_, true≢false, false≢true}
 use mathlib.Core.Logic.{_⊎_, inl, inr, ⊎-elim, _≢_}
 use mathlib.Core.Option.{Option, none, some}
-use mathlib.Core.List.{List, [], _∷_, _++_, map, flatMap, headD, append-assoc, append-nil, List·Memᴰ as Mem, List·Memᴰ·head as here, List·Memᴰ·tail as there, List·Memᴰ·not-nil as not-nil, List·Memᴰ·cases-cons as mem-cons}
-use mathlib.Core.List.{Memᴰ·append-right as mem-right, Memᴰ·cast as mem-cast, List·Memᴰ·append-cases as mem-append}
+use mathlib.Core.List.{List, [], _∷_, _++_, map, flatMap, headD, append-assoc, append-nil, List·Memᴰ as Mem, List·Memᴰ·head as here, List·Memᴰ·tail as there, List·Memᴰ·not-nil as not-nil, List·Memᴰ·cases-cons as mem-cons, Memᴰ·append-right as mem-right, Memᴰ·cast as mem-cast, List·Memᴰ·append-cases as mem-append}
 use native.Mathlib.Omega.{arith}
 use lib.ListN.{length, getD, length-append, List·getD-append}
 use lib.Dec.{eqb}
@@ -96,11 +95,6 @@ pairwise-imply R S (x ∷ xs) f p =
 pub map-all : {A B : Type 0} (f : A → B) (P : B → Type 0) (l : List A) → All (λ (x : A). P (f x)) l → All P (map f l)
 map-all f P [] a = tt
 map-all f P (x ∷ xs) a = (a .0, map-all f P xs (a .1))
-
--- what f makes of a member is a member of what f makes
-pub map-mem : {A B : Type 0} (f : A → B) {x : A} {l : List A} → Mem x l → Mem (f x) (map f l)
-map-mem f (here e) = here (ap f e)
-map-mem f (there m) = there (map-mem f m)
 
 -- and keeps what holds of earlier and later ones by way of f
 pub map-pairwise : {A B : Type 0} (f : A → B) (R : B → B → Type 0) (l : List A) → AllPairs (λ (x y : A). R (f x) (f y)) l → AllPairs R (map f l)

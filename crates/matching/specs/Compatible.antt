@@ -1,5 +1,4 @@
 -- Compatible jobs, those that may print in one pass: neither is solo, and they share (document 01, "Rival plans and the cut").
--- Assumes nothing.
 use Prim.Native.Nat.{ℕ, _≤_, _<_}
 use mathlib.Core.Path.{_≡_, refl, _∙_}
 use mathlib.Core.Bool.{true, not, _&&_, and-comm, and-eq-true-iff}

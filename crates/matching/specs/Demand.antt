@@ -1,6 +1,5 @@
 -- Our pairs in front of every cut are at least as many as a rival's (document 01, "Rival plans and the cut"; 000, Theorem 4).
 -- The pairs in front of a cut are the greedy rule's pairs of the jobs in front of it, and those are a maximum matching.
--- Assumes nothing.
 use Prim.Native.Nat.{ℕ, _≤_, _<_}
 use mathlib.Core.Path.{_≡_, sym, ap, _∙_}
 use mathlib.Core.Bool.{Bool, true, false, not, and-eq-true-iff}

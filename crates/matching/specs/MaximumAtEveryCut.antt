@@ -1,5 +1,4 @@
 -- The plan that no rival beats at any cut (document 01, "Rival plans and the cut"), as it stands in the first M cells of a partner buffer.
--- Assumes nothing.
 use Prim.Native.Nat.{ℕ, _+_, _≤_, _<_}
 use mathlib.Core.Path.{_≡_, refl, sym, _∙_}
 use mathlib.Core.Logic.{⊎-elim}

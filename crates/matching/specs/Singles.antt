@@ -1,6 +1,5 @@
 -- The jobs in no pair of a rival plan, and its passes (document 01, "Rival plans and the cut"). Each pair takes two jobs that no other pair has, so the singles are what is
 -- left of M after two for each pair.
--- Assumes nothing.
 use Prim.Native.Nat.{ℕ, suc, _+_, _*_, _≤_, _<_}
 use mathlib.Core.Path.{_≡_, refl, sym, ap, _∙_}
 use mathlib.Core.Logic.{_≢_}

@@ -1,12 +1,11 @@
 -- The plan of an accepted table, made in the work cells: its schedule is prepared and swept.
 use Prim.Native.Nat.{ℕ, _+_, _-_, _*_, _^_, _≤_}
-use mathlib.Core.Path.{_≡_, refl, _∙_}
+use mathlib.Core.Path.{_≡_, _∙_}
 use mathlib.Core.List.{List}
 use native.Mathlib.Omega.{arith}
 use lib.ListN.{length}
 use Rattle.model.specs.Jobs.{Table, jobs}
 use Rattle.model.specs.Visits.{levels}
-use Rattle.model.specs.Planning as Planning
 use Rattle.model.specs.declared.Totals.{Totals}
 use Rattle.matching.specs.Partners.{jobs-counted, passes-length}
 use Rattle.settle.specs.Spanned.{Spanned}
@@ -17,6 +16,7 @@ use Rattle.schedule_laws.specs.Theorem.{schedule-sound}
 use Rattle.sweep_laws.specs.Sweeping.{Sweepable}
 use Rattle.passes.specs.OfTable.{swept-plan, swept-pairs, swept-visits}
 use Rattle.passes.specs.PlanPass.{Plan, TotalsOf}
+use Rattle.model.specs.Planning as Planning
 
 -- enough work cells for n jobs: the parts of the schedule and the segment tree
 abbrev pub Roomy : ℕ → List ℕ → Type 0

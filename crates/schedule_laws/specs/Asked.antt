@@ -4,7 +4,7 @@ use Prim.Native.Nat.{ℕ, zero, suc, _+_, _-_, _<_, _≤_}
 use mathlib.Core.Path.{_≡_, refl, sym, ap, _∙_}
 use mathlib.Core.Logic.{⊎-elim, _↔_}
 use mathlib.Core.Bool.{Bool, true, _&&_, and-false}
-use mathlib.Core.List.{List, [], _∷_, List·Memᴰ as Mem}
+use mathlib.Core.List.{List, [], _∷_}
 use native.Mathlib.Omega.{arith}
 use native.Mathlib.Decide.{decLt}
 use lib.ListN.{getD}
@@ -16,7 +16,7 @@ use Rattle.model.specs.Jobs.{Table, jobs, top, bottomLeaf}
 use Rattle.model.specs.Order.{leftward, slotOrder, slot, place}
 use Rattle.model.specs.Visits.{asksFor, askedSlots, askedFrom, askedTo}
 use Rattle.laws.specs.Lists.{getD-mem, mem-all, select-agree}
-use Rattle.laws.specs.Numbers.{range-mem, mem-range, numbers-mem, range-head, range-length}
+use Rattle.laws.specs.Numbers.{numbers-mem, range-head, range-length}
 use Rattle.tree_laws.specs.Spans.{ancestor-span}
 use Rattle.matching.specs.RunningOrder.{lexicographic-true, lexicographic-first, leftward-order, slots-mem, slots-length, slot-count, slot-of-job}
 use Rattle.laws.specs.Sorting.{irreflexive}
@@ -153,17 +153,6 @@ module _ (tb : Table) where
     pub to-is : askedTo tb i ≡ leftOf (suc (lastLeaf (tb .parents) (top tb i)))
     unfolding askedTo
     to-is = rw (from-is, asked-range, range-length (start i) (end i - start i)) (omega (arith, own-start, own-end))
-
-    -- a slot is asked for exactly if it lies between the two
-    pub asked-between : (s : ℕ) → s < jobs tb → asksFor tb i s ≡ (leb (askedFrom tb i) s && ltb s (askedTo tb i))
-    asked-between s h = rw (from-is, to-is) (asks-between i s h)
-
-    pub asked-mem : (s : ℕ) → Mem s (askedSlots tb i) ↔ ((askedFrom tb i ≤ s) × (s < askedTo tb i))
-    asked-mem s =
-        rw (asked-range, from-is, to-is) (
-          λ m. let r = range-mem (start i) (end i - start i) m in (r .0, omega (arith, r .1, own-start, own-end)),
-          λ r. mem-range s (start i) (end i - start i) (r .0) (omega (arith, r .1, own-start, own-end)),
-        )
 
     -- the slot of a job is asked for exactly if its first leaf lies in the span of the top of i
     pub asked-slot : (j : ℕ) → j < jobs tb → (leb (askedFrom tb i) (slot tb j) && ltb (slot tb j) (askedTo tb i)) ≡ (leb (firstLeaf (tb .parents) (top tb i)) (bottomLeaf tb j) && leb (bottomLeaf tb j) (lastLeaf (tb .parents) (top tb i)))

@@ -15,7 +15,7 @@ use Rattle.model.specs.Jobs.{Table, jobs, topDepth}
 use Rattle.laws.specs.Lists.{Distinct, all-mem, mem-all, elem-mem, mem-elem, select-mem, mem-select, select-pairwise, getD-mem, pairwise-imply}
 use Rattle.laws.specs.Booleans.{answers, same-test}
 use Rattle.laws.specs.Numbers.{mem-numbers, numbers-mem, numbers-distinct}
-use Rattle.tree_laws.specs.Chain.{ancestor-depth}
+use Rattle.tree_laws.specs.Ancestors.{ancestor-depth}
 use Rattle.laws.specs.Counting.{count-none, count-all, count-length, count-select}
 use Rattle.laws.specs.Places.{index-getD, index-take}
 use Rattle.laws.specs.Sorting.{StrictOrder, Before, sort-mem, mem-sort, sort-length, sort-count, sort-sorted, sort-rank, sorted-distinct}
@@ -111,8 +111,8 @@ module _ (tb : Table) where
       (λ x y m n s e. le-leb (topDepth tb (jobAt tb p)) (bottomDepth tb x) (omega (arith, leb-true (topDepth tb (jobAt tb p)) (bottomDepth tb y) e, sooner-depth x y s)))
       reach-sorted)
 
-  pub reached-at-turn : (p q : ℕ) → q < jobs tb → elem q (take (due tb p) (reachOrder tb)) ≡ (asking tb q && deep p q)
-  reached-at-turn p q h =
+  pub reached-deep : (p q : ℕ) → q < jobs tb → elem q (take (due tb p) (reachOrder tb)) ≡ (asking tb q && deep p q)
+  reached-deep p q h =
       rw (due-part p)
       (same-test (elem q (select (deep p) (reachOrder tb))) (asking tb q && deep p q)
       (λ e. let s = select-mem (deep p) (reachOrder tb) (elem-mem q (select (deep p) (reachOrder tb)) e) in rw (reach-mem (s .0) .1, s .1) refl)
@@ -154,7 +154,7 @@ module _ (tb : Table) where
     reached-in-time r h =
         let p = reach-at r h in
         let own : deep (reachAt r) (reachAt r) ≡ true = le-leb (topDepth tb (jobAt tb (reachAt r))) (bottomDepth tb (reachAt r)) (own-deep (reachAt r) (p .0)) in
-        let m : Mem (reachAt r) (take (due tb (reachAt r)) (reachOrder tb)) = elem-mem (reachAt r) (take (due tb (reachAt r)) (reachOrder tb)) (reached-at-turn (reachAt r) (reachAt r) (p .0) ∙ rw (p .1, own) refl) in
+        let m : Mem (reachAt r) (take (due tb (reachAt r)) (reachOrder tb)) = elem-mem (reachAt r) (take (due tb (reachAt r)) (reachOrder tb)) (reached-deep (reachAt r) (reachAt r) (p .0) ∙ rw (p .1, own) refl) in
         omega (arith, index-take (due tb (reachAt r)) (reachOrder tb) m, index-getD (reachOrder tb) r 0 reach-distinct h)
 
     -- and at the last turn all are

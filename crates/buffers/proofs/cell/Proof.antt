@@ -1,5 +1,4 @@
--- `cells::cell` meets its contract: inside the cells it reads one, past them the list's default stands.
--- Assumes nothing.
+-- `buffers::cell` meets its contract: inside the cells it reads one, past them the list's default stands.
 use borrow.Author.Needs.{needs}
 use mathlib.Core.Path.{sym}
 use lib.ListN.{List·getD-eq-default}

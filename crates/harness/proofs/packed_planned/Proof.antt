@@ -1,5 +1,4 @@
 -- `harness::packed_planned` meets its contract: each arm returns and writes what `PackedPlanned` says of its case.
--- Assumes nothing.
 use mathlib.Core.Path.{_≡_, sym, ap, _∙_}
 use Prim.Native.Nat.{ℕ}
 use borrow.Author.Needs.{needs}

@@ -1,5 +1,5 @@
 -- `leading` answers its definition: the place is at most the length, so what stands from it on is a part of the other list, and the agreement
--- with that part is asked of `agreement`. Assumes nothing.
+-- with that part is asked of `agreement`.
 use Prim.Native.Nat.{ℕ, _≤_}
 use mathlib.Core.Path.{ap, _∙_}
 use native.Mathlib.Omega.{arith}

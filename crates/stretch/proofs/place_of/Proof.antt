@@ -1,5 +1,5 @@
 -- `place_of` answers the first place: none of the numbers walked is the one sought, so their count and the place in what remains make the
--- place in the whole list. The measure is what is left of the length. Assumes nothing.
+-- place in the whole list. The measure is what is left of the length.
 use Prim.Native.Nat.{_+_, _-_}
 use mathlib.Core.Path.{_≡_}
 use borrow.Author.Needs.{needs}
