@@ -12,8 +12,8 @@ use lib.Dec.{eqb, ltb, leb}
 use borrow.Author.Tests.{ne-eqb, eqb-true, eqb-false, eq-eqb, ltb-true, leb-true, leb-false, le-leb, lt-leb, lt-ltb, le-ltb}
 use Rattle.model.specs.Lists.{allOf}
 use Rattle.model.specs.Table.{isDigit, digitValue, numberAfter, kindOf}
-use Rattle.frame.specs.Fields.{digitRead, DigitByte, DigitValues, FieldRead, KindRead}
 use Rattle.laws.specs.Booleans.{answers, same-test}
+use Rattle.frame.specs.Fields.{digitRead, DigitByte, DigitValues, FieldRead, KindRead}
 
 -- ---- one byte
 

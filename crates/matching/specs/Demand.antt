@@ -14,12 +14,12 @@ use Rattle.model.specs.Greedy.{greedy, compatible, passes}
 use Rattle.model.specs.Rival.{Pair, Disjoint, Rules, Rival, inFront, pairsInFront, pairsOf}
 use Rattle.model.specs.Planning.{pairCount, partners}
 use Rattle.laws.specs.Lists.{mem-all, all-imply, selected-all, select-pairwise}
-use Rattle.tree_laws.specs.WellFormed.{Tree}
-use Rattle.tree_laws.specs.Sharing.{Downward}
 use Rattle.laws.specs.Booleans.{T-true}
-use Rattle.matching.specs.Compatible.{true-compatible, compatible-eliminates}
 use Rattle.laws.specs.Counting.{count-length}
 use Rattle.laws.specs.Places.{take-mem, take-pairwise}
+use Rattle.tree_laws.specs.WellFormed.{Tree}
+use Rattle.tree_laws.specs.Sharing.{Downward}
+use Rattle.matching.specs.Compatible.{true-compatible, compatible-eliminates}
 use Rattle.matching.specs.Maximum.{Falls, Fits, greedy-maximum}
 use Rattle.matching.specs.Passes.{pairsIn, pairs-length}
 use Rattle.matching.specs.Prefix.{both, greedy-inside}

@@ -18,9 +18,9 @@ use Rattle.model.specs.Greedy.{passes}
 use Rattle.laws.specs.Booleans.{answers}
 use Rattle.laws.specs.Lists.{mem-all, all-imply}
 use Rattle.laws.specs.Numbers.{numbers-mem, numbers-length}
+use Rattle.laws.specs.Counting.{count-all}
 use Rattle.tree_laws.specs.WellFormed.{Tree}
 use Rattle.tree_laws.specs.Sharing.{Downward}
-use Rattle.laws.specs.Counting.{count-all}
 use Rattle.matching.specs.RunningOrder.{place-lt}
 use Rattle.matching.specs.Partners.{jobs-counted, partner-apart, partners-symmetric, our-pairs, our-pairs-all}
 use Rattle.matching.specs.Demand.{maximum-at-every-cut}

@@ -17,11 +17,11 @@ use Rattle.model.specs.Greedy.{Pass, pair, single, compatible, passes}
 use Rattle.model.specs.Rival.{Pair, Disjoint, Rules, Rival, inFront, pairsInFront, pairsOf}
 use Rattle.model.specs.Planning.{partnerIn, partners, pairs, singles}
 use Rattle.laws.specs.Lists.{Distinct, all-mem, mem-all, pairwise-imply, select-mem, select-pairwise, map-all, map-pairwise}
-use Rattle.matching.specs.Compatible.{compatible-true, compatible-symmetric}
 use Rattle.laws.specs.Counting.{count-length-all, count-agree, count-none, count-all, count-select, count-map, count-at}
-use Rattle.matching.specs.Passes.{passes-counted, pairsIn, vertices, pairs-length, greedy-distinct, greedy-mem, mem-greedy, greedy-count, greedy-fits, greedy-places}
 use Rattle.laws.specs.Booleans.{true-T}
 use Rattle.laws.specs.Numbers.{mem-numbers, numbers-mem, numbers-at, numbers-rise, numbers-distinct}
+use Rattle.matching.specs.Compatible.{compatible-true, compatible-symmetric}
+use Rattle.matching.specs.Passes.{passes-counted, pairsIn, vertices, pairs-length, greedy-distinct, greedy-mem, mem-greedy, greedy-count, greedy-fits, greedy-places}
 use Rattle.matching.specs.RunningOrder.{running-mem, mem-running, running-length, running-distinct, place-lt}
 
 -- i and j are a pair of the passes, in one order or the other

@@ -7,16 +7,16 @@ use lib.ListN.{length}
 use Rattle.model.specs.Jobs.{Table, jobs}
 use Rattle.model.specs.Visits.{levels}
 use Rattle.model.specs.declared.Totals.{Totals}
-use Rattle.matching.specs.Partners.{jobs-counted, passes-length}
+use Rattle.model.specs.Planning as Planning
 use Rattle.settle.specs.Spanned.{Spanned}
 use Rattle.jobs.specs.Accepted.{Accepted}
+use Rattle.matching.specs.Partners.{jobs-counted, passes-length}
 use Rattle.schedule.specs.InWork.{treePart, Swept}
 use Rattle.schedule.specs.OfTable.{Prepared}
 use Rattle.schedule_laws.specs.Theorem.{schedule-sound}
 use Rattle.sweep_laws.specs.Sweeping.{Sweepable}
 use Rattle.passes.specs.OfTable.{swept-plan, swept-pairs, swept-visits}
 use Rattle.passes.specs.PlanPass.{Plan, TotalsOf}
-use Rattle.model.specs.Planning as Planning
 
 -- enough work cells for n jobs: the parts of the schedule and the segment tree
 abbrev pub Roomy : ℕ → List ℕ → Type 0

@@ -20,6 +20,8 @@ use Rattle.model.specs.Rival.{Pair}
 use Rattle.laws.specs.Booleans.{answers}
 use Rattle.laws.specs.Lists.{all-mem}
 use Rattle.laws.specs.Numbers.{numbers-mem, numbers-at}
+use Rattle.jobs.specs.Accepted.{Accepted}
+use Rattle.ancestry.specs.Ancestry.{common-shared}
 use Rattle.matching.specs.Renamed.{renamed}
 use Rattle.matching.specs.Passes.{pairsIn, vertices, mem-greedy}
 use Rattle.matching.specs.Partners.{passes-compatible, passes-length, jobs-counted}
@@ -29,8 +31,6 @@ use Rattle.schedule.specs.InWork.{passOf, passAt, Swept}
 use Rattle.schedule.specs.OfTable.{jobAt, scheduleOf, Prepared}
 use Rattle.schedule_laws.specs.Places.{job-known}
 use Rattle.schedule_laws.specs.Theorem.{places-are, schedule-passes, schedule-length, schedule-pairs, schedule-visits}
-use Rattle.jobs.specs.Accepted.{Accepted}
-use Rattle.ancestry.specs.Ancestry.{common-shared}
 use Rattle.passes.specs.Read.{openerIn, mateIn, jobIn, PassCells, PairRead, SingleRead, PassRead}
 use Rattle.passes.specs.declared.Pass as declared
 use Rattle.passes.specs.declared.Pass.the-variants as pass

@@ -15,12 +15,12 @@ use Rattle.model.specs.Planning.{partnerIn, printed, pairs, singles}
 use Rattle.model.specs.declared.Totals.{Totals}
 use Rattle.model.specs.Rival.{Pair}
 use Rattle.laws.specs.Lists.{Distinct, all-mem}
-use Rattle.matching.specs.Compatible.{compatible-true}
-use Rattle.matching.specs.Passes.{pairsIn, vertices}
-use Rattle.matching.specs.Partners.{pair-partners, partner-none, passes-distinct, passes-known, passes-compatible}
 use Rattle.settle.specs.Spanned.{Spanned}
 use Rattle.jobs.specs.Accepted.{Accepted}
 use Rattle.ancestry.specs.Ancestry.{shared-symmetric}
+use Rattle.matching.specs.Compatible.{compatible-true}
+use Rattle.matching.specs.Passes.{pairsIn, vertices}
+use Rattle.matching.specs.Partners.{pair-partners, partner-none, passes-distinct, passes-known, passes-compatible}
 use Rattle.passes.specs.Read.{PassCells, PassRead}
 use Rattle.passes.specs.OfTable.{PlanIn, PassIs, planPass, pass-among, pass-cells, pass-read}
 use Rattle.passes.specs.declared.Pass as declared

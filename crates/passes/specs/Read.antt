@@ -6,8 +6,8 @@ use mathlib.Core.List.{List}
 use lib.ListN.{length, getD}
 use Rattle.model.specs.Tree.{FFFF}
 use Rattle.model.specs.Greedy.{Pass}
-use Rattle.schedule.specs.InWork.{matePart, openerPart}
 use Rattle.ancestry.specs.Ancestry.{LowestCommonAncestor}
+use Rattle.schedule.specs.InWork.{matePart, openerPart}
 use Rattle.passes.specs.declared.Pass as declared
 use Rattle.passes.specs.declared.Pass.the-variants as pass
 

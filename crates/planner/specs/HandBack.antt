@@ -17,9 +17,9 @@ use Rattle.model.specs.Greedy.{Pass, pair, single, passes}
 use Rattle.model.specs.Planning.{partnerIn, partners, printed, printedLayouts}
 use Rattle.laws.specs.Booleans.{answers}
 use Rattle.laws.specs.Numbers.{numbers-length, numbers-at}
+use Rattle.jobs.specs.Accepted.{Accepted}
 use Rattle.matching.specs.Passes.{vertices}
 use Rattle.matching.specs.Partners.{passes-all}
-use Rattle.jobs.specs.Accepted.{Accepted}
 use Rattle.passes.specs.Read.{PassRead}
 use Rattle.passes.specs.OfTable.{PassIs, planPass}
 use Rattle.passes.specs.PlanPass.{one-known, other-known, one-partner, other-partner, one-printed, other-printed, single-known, single-partner, single-printed, Plan, jobs-are, within, plan-read}

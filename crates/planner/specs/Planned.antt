@@ -14,17 +14,17 @@ use Rattle.model.specs.Outcomes.{PlannedAs}
 use Rattle.model.specs.declared.Planned.{Planned}
 use Rattle.model.specs.declared.Refusal.{Refusal}
 use Rattle.model.specs.declared.Totals.{Totals}
-use Rattle.matching.specs.MaximumAtEveryCut.{our-plan-maximum}
+use Rattle.model.specs.Planning as Planning
+use Rattle.model.specs.declared.Planned.the-variants as planned
 use Rattle.settle.specs.Spanned.{Spanned}
 use Rattle.jobs.specs.Accepted.{Accepted, Lent, table-accepted}
 use Rattle.jobs.specs.Checks.{checkVerdict}
 use Rattle.jobs.specs.declared.JobCheck.{JobCheck}
+use Rattle.jobs.specs.declared.JobCheck.the-variants as check
+use Rattle.matching.specs.MaximumAtEveryCut.{our-plan-maximum}
 use Rattle.sweep_laws.specs.Room.{sweep-room}
 use Rattle.passes.specs.Making.{Roomy, Made}
 use Rattle.planner.specs.HandBack.{Returned}
-use Rattle.model.specs.Planning as Planning
-use Rattle.model.specs.declared.Planned.the-variants as planned
-use Rattle.jobs.specs.declared.JobCheck.the-variants as check
 
 -- results of one cell for each of n jobs, and the work cells
 pub record Room (n : ℕ) (partners printed work : List ℕ) : Type 0 where

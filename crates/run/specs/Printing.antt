@@ -12,15 +12,15 @@ use Rattle.model.specs.Greedy.{Pass, pair, single, passes}
 use Rattle.model.specs.Planning.{pairCount, singleCount, pairs, singles}
 use Rattle.model.specs.Output.{pairLine, singleLine, totalsLine, passLine, planBytes, outputBytes}
 use Rattle.model.specs.declared.Totals.{Totals}
-use Rattle.matching.specs.Partners.{jobs-counted}
+use Rattle.laws.specs.Lists.{total-more, flat-more}
 use Rattle.jobs.specs.Accepted.{Accepted}
-use Rattle.lines.specs.Writing.{Appended, Printed, printed-all}
+use Rattle.matching.specs.Partners.{jobs-counted}
 use Rattle.passes.specs.Read.{PassRead}
 use Rattle.passes.specs.OfTable.{PassIs, planPass}
 use Rattle.passes.specs.PlanPass.{one-printed, Plan, within, plan-read, TotalsOf}
-use Rattle.laws.specs.Lists.{total-more, flat-more}
 use Rattle.passes.specs.declared.Pass as declared
 use Rattle.passes.specs.declared.Pass.the-variants as pass
+use Rattle.lines.specs.Writing.{Appended, Printed, printed-all}
 
 -- how long the line of a pass is, and the line
 abbrev pub lineLength : declared.Pass → ℕ

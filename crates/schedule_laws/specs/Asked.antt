@@ -17,11 +17,11 @@ use Rattle.model.specs.Order.{leftward, slotOrder, slot, place}
 use Rattle.model.specs.Visits.{asksFor, askedSlots, askedFrom, askedTo}
 use Rattle.laws.specs.Lists.{getD-mem, mem-all, select-agree}
 use Rattle.laws.specs.Numbers.{numbers-mem, range-head, range-length}
-use Rattle.tree_laws.specs.Spans.{ancestor-span}
-use Rattle.matching.specs.RunningOrder.{lexicographic-true, lexicographic-first, leftward-order, slots-mem, slots-length, slot-count, slot-of-job}
 use Rattle.laws.specs.Sorting.{irreflexive}
+use Rattle.laws.specs.Counting.{count-bound, count-le, count-lt}
+use Rattle.tree_laws.specs.Spans.{ancestor-span}
 use Rattle.jobs.specs.Accepted.{Accepted}
-use Rattle.schedule_laws.specs.Counts.{count-bound, count-le, count-lt}
+use Rattle.matching.specs.RunningOrder.{lexicographic-true, lexicographic-first, leftward-order, slots-mem, slots-length, slot-count, slot-of-job}
 
 -- ---- a span of numbers
 

@@ -14,11 +14,11 @@ use Rattle.model.specs.Jobs.{Table, jobs, top, bottom, shares, topDepth, bottom
 use Rattle.model.specs.Order.{runningOrder, place}
 use Rattle.laws.specs.Lists.{getD-mem}
 use Rattle.laws.specs.Numbers.{numbers-length, numbers-at}
-use Rattle.tree_laws.specs.Sharing.{theorem-6-test}
 use Rattle.laws.specs.Counting.{count-map}
+use Rattle.tree_laws.specs.Sharing.{theorem-6-test}
+use Rattle.jobs.specs.Accepted.{Accepted}
 use Rattle.matching.specs.RunningOrder.{running-mem, running-length, running-count, place-of-job, place-earlier, earlier-depth}
 use Rattle.schedule.specs.OfTable.{jobAt}
-use Rattle.jobs.specs.Accepted.{Accepted}
 
 module _ (tb : Table) where
   -- at a place stands a job

@@ -15,14 +15,13 @@ use Rattle.model.specs.Jobs.{Table, jobs, topDepth}
 use Rattle.laws.specs.Lists.{Distinct, all-mem, mem-all, elem-mem, mem-elem, select-mem, mem-select, select-pairwise, getD-mem, pairwise-imply}
 use Rattle.laws.specs.Booleans.{answers, same-test}
 use Rattle.laws.specs.Numbers.{mem-numbers, numbers-mem, numbers-distinct}
-use Rattle.tree_laws.specs.Ancestors.{ancestor-depth}
-use Rattle.laws.specs.Counting.{count-none, count-all, count-length, count-select}
+use Rattle.laws.specs.Counting.{count-none, count-all, count-length, count-select, count-within, count-implies}
 use Rattle.laws.specs.Places.{index-getD, index-take}
 use Rattle.laws.specs.Sorting.{StrictOrder, Before, sort-mem, mem-sort, sort-length, sort-count, sort-sorted, sort-rank, sorted-distinct}
+use Rattle.tree_laws.specs.Ancestors.{ancestor-depth}
+use Rattle.jobs.specs.Accepted.{Accepted}
 use Rattle.matching.specs.RunningOrder.{lexicographic-true, lexicographic-asymmetric, lexicographic-falling, lexicographic-total}
 use Rattle.schedule.specs.OfTable.{jobAt, asking, bottomDepth, sooner, reachOrder, due}
-use Rattle.jobs.specs.Accepted.{Accepted}
-use Rattle.schedule_laws.specs.Counts.{count-within, count-implies}
 use Rattle.schedule_laws.specs.Places.{job-known, later-depth}
 
 -- where a test passes for a leading part of a list only, that part is what it selects

@@ -21,13 +21,13 @@ use Rattle.laws.specs.Booleans.{answers}
 use Rattle.laws.specs.Lists.{pairwise-imply}
 use Rattle.laws.specs.Numbers.{numbers-length, numbers-at, numbers-mem, numbers-rise}
 use Rattle.laws.specs.Places.{index-getD}
+use Rattle.laws.specs.Levels.{levels-wide}
+use Rattle.laws.specs.Counting.{count-bound}
+use Rattle.jobs.specs.Accepted.{Accepted}
 use Rattle.matching.specs.RunningOrder.{slot-lt, slot-injective}
 use Rattle.matching.specs.Renamed.{renamed, greedy-renamed, pairs-renamed, total-renamed}
 use Rattle.schedule.specs.Schedule.{places, slotAt, fromAt, toAt, dueAt, fits, passesByPlace, visitsAt, visitsOf, totalVisits, Sound}
 use Rattle.schedule.specs.OfTable.{jobAt, asking, bottomDepth, reachOrder, due, scheduleOf}
-use Rattle.jobs.specs.Accepted.{Accepted}
-use Rattle.laws.specs.Levels.{levels-wide}
-use Rattle.schedule_laws.specs.Counts.{count-bound}
 use Rattle.schedule_laws.specs.Places.{job-known, job-once, running-list, later-depth, theorem-6-ordered}
 use Rattle.schedule_laws.specs.Asked.{asked-slot, asked-bound, asks-itself}
 use Rattle.schedule_laws.specs.ReachOrder.{reachAt, reach-at, reach-length, reach-distinct, reached-deep, due-within, due-later, reached-in-time}

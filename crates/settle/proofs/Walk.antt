@@ -13,9 +13,9 @@ use lib.Dec.{eqb, ltb}
 use borrow.Author.Tests.{lt-ltb, le-ltb, eq-eqb, ne-eqb, eqb-false}
 use Rattle.model.specs.Lists.{numbers, numbersFrom, anyOf, select}
 use Rattle.model.specs.Tree.{FFFF, layoutLimit, ancestorOrSelf, children, leaves, firstLeaf, lastLeaf}
-use Rattle.tree_laws.specs.WellFormed.{Tree}
 use Rattle.laws.specs.Booleans.{answers, one-answer}
 use Rattle.laws.specs.Lists.{any-mem, mem-any, flat-more}
+use Rattle.tree_laws.specs.WellFormed.{Tree}
 use Rattle.tree_laws.specs.Ancestors.{AncestorOrSelf, ancestor-true, true-ancestor, ancestor-le, ancestor-refl}
 use Rattle.tree_laws.specs.Children.{child-parent, child-greater, rest-greater, ancestor-child, child-ancestor}
 use Rattle.tree_laws.specs.Leaves.{leaves-nonempty, leaves-of-leaf, leaves-of-children, first-of-child, last-is, last-lt}

@@ -1,18 +1,18 @@
 -- Laws in the shape that the functions' proofs ask for. The passes of the two loops: what has been walked, and the definition of what
 -- remains, make the definition of the whole. Then the cases of `leading`, and the outcome from its case.
 use Prim.Native.Nat.{ℕ, suc, _+_, _≤_, _<_}
+use mathlib.Core.Path.{_≡_, refl, sym}
+use mathlib.Core.List.{List, [], _∷_}
 use native.Mathlib.Nat.{suc-ne-zero}
 use native.Mathlib.Omega.{arith}
 use native.Mathlib.Numerals.{add-one}
-use mathlib.Core.Path.{_≡_, refl, sym}
-use mathlib.Core.List.{List, [], _∷_}
-use denote.Ref.{RefT, ptr, now}
 use lib.ListN.{length, getD, take, drop, drop-of-length-le}
 use lib.Seq.{drop-cons, length-take-le}
+use denote.Ref.{RefT, ptr, now}
 use Rattle.model.specs.Stretch.{agreement, leading, Stretch, stretchOf, begun, numbersOf, StretchOutcome}
 use Rattle.model.specs.Lists.{indexOf}
-use Rattle.stretch.specs.StretchLaws.{agreement-same, agreement-differs, agreement-nil, leading-le}
 use Rattle.laws.specs.Places.{index-here, index-there}
+use Rattle.stretch.specs.StretchLaws.{agreement-same, agreement-differs, agreement-nil, leading-le}
 
 -- x does not stand in the first n of ys
 module _ (x : ℕ) (ys : List ℕ) (n : ℕ) (walked : n + indexOf x (drop n ys) ≡ indexOf x ys) where

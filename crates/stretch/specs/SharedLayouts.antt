@@ -1,19 +1,19 @@
 -- For two jobs' paths written from top to bottom the shared stretch holds exactly the shared layouts (document 01, "Shared stretch").
 use Prim.Native.Nat.{ℕ, suc, pred, _+_, _<_}
-use native.Mathlib.Omega.{arith}
-use native.Mathlib.Decide.{decLt}
 use mathlib.Core.Path.{_≡_, refl, sym, ap, _∙_, subst}
 use mathlib.Core.Logic.{⊎-elim}
 use mathlib.Core.Bool.{true, _&&_, and-eq-true-iff}
 use mathlib.Core.List.{List, [], _∷_, _++_, reverse, reverse-cons, List·Memᴰ as Mem, List·Memᴰ·head as here, List·Memᴰ·tail as there, Memᴰ·append-left, Memᴰ·append-right, List·Memᴰ·append-cases, List·Memᴰ·cases-cons, List·Memᴰ·eq-of-singleton}
+use native.Mathlib.Omega.{arith}
+use native.Mathlib.Decide.{decLt}
 use lib.ListN.{length, getD, length-append, List·getD-append}
 use lib.Seq.{getD-append-seam}
 use Rattle.model.specs.Lists.{elem}
 use Rattle.model.specs.Jobs.{Table, path, pathFrom}
 use Rattle.model.specs.Stretch.{stretchOf, numbersOf}
-use Rattle.tree_laws.specs.WellFormed.{Tree}
 use Rattle.laws.specs.Lists.{elem-mem, mem-elem, getD-mem}
 use Rattle.laws.specs.Booleans.{same-test}
+use Rattle.tree_laws.specs.WellFormed.{Tree}
 use Rattle.tree_laws.specs.Ancestors.{AncestorOrSelf, self, up}
 use Rattle.tree_laws.specs.Sharing.{Downward, path-one, path-up}
 use Rattle.stretch.specs.StretchPaths.{Stands, Descending, shared-in-stretch, stretch-in-both}

@@ -1,18 +1,18 @@
 -- Of two paths written from top to bottom the shared stretch holds exactly the shared layouts (document 01, "Shared stretch").
 -- Two paths that meet are the same before the meeting, up to the top of the shorter.
 use Prim.Native.Nat.{ℕ, zero, suc, _+_, _-_, _≤_, _<_}
-use native.Mathlib.Nat.{not-suc-le-zero, lt-of-not-le, eq-zero-or-pos, le-refl, le-of-lt}
-use native.Mathlib.Omega.{arith}
-use native.Mathlib.Decide.{decLe}
 use mathlib.Core.Path.{_≡_, refl, sym, ap, _∙_, subst}
 use mathlib.Core.Logic.{_⊎_, inl, inr, ⊎-elim}
 use mathlib.Core.List.{List, [], _∷_}
+use native.Mathlib.Nat.{not-suc-le-zero, lt-of-not-le, eq-zero-or-pos, le-refl, le-of-lt}
+use native.Mathlib.Omega.{arith}
+use native.Mathlib.Decide.{decLe}
 use lib.ListN.{length, getD, take, drop, length-drop}
 use lib.Seq.{getD-drop, getD-take, length-take-le, ext-getD}
 use Rattle.model.specs.Stretch.{agreement, leading, Stretch, stretchOf, numbersOf}
 use Rattle.model.specs.Lists.{indexOf}
-use Rattle.stretch.specs.StretchLaws.{agreement-longest, leading-agrees, leading-within, leading-le, stretch-first, stretch-second, stretch-cases}
 use Rattle.laws.specs.Places.{index-stands, index-first}
+use Rattle.stretch.specs.StretchLaws.{agreement-longest, leading-agrees, leading-within, leading-le, stretch-first, stretch-second, stretch-cases}
 
 -- x stands somewhere in xs
 pub record Stands (x : ℕ) (xs : List ℕ) : Type 0 where

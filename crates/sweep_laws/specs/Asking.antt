@@ -12,11 +12,11 @@ use lib.Dec.{eqb}
 use borrow.Author.Tests.{eq-eqb, ne-eqb, eqb-false, lt-ltb}
 use Rattle.model.specs.Tree.{FFFF}
 use Rattle.model.specs.Jobs.{jobLimit}
+use Rattle.laws.specs.Levels.{levels-least}
 use Rattle.schedule.specs.Schedule.{Schedule, slotAt, fromAt, toAt, visitsAt}
 use Rattle.schedule.specs.InWork.{slotPart, fromPart, toPart, reachedPart, duePart, matePart, treePart}
 use Rattle.sweep_laws.specs.SegmentTree.{entriesIn, removeEntry, smallest, Searchable, Minimum}
 use Rattle.sweep_laws.specs.VisitBound.{visits-bound}
-use Rattle.laws.specs.Levels.{levels-least}
 use Rattle.sweep_laws.specs.WorkCells.{FrontKept, front-both, front-set-both, mid-tail, treeIn, TreeChanged, tree-set}
 use Rattle.sweep_laws.specs.Sweeping.{freeAt, Waiting, Open, Setting, Cells, Sweeping, Asking, paired, Chosen, PlaceRemovable, Pairable}
 use Rattle.sweep_laws.specs.WaitingLaws.{waiting-as, waiting-remove}

@@ -6,8 +6,8 @@ use mathlib.Core.List.{List, _++_, append-assoc}
 use native.Mathlib.Omega.{arith}
 use native.Mathlib.Decide.{ℕ-discrete}
 use lib.ListN.{length, getD, take, drop, set, replicate, length-set, length-append, length-replicate, getD-replicate, length-drop, replicate-append-replicate, List·getD-append}
-use borrow.Author.Fill.{fill-more}
 use lib.Seq.{getD-set-same, getD-set-other, drop-set-lt, drop-set-add, take-set-lt, drop-at, take-at}
+use borrow.Author.Fill.{fill-more}
 use Rattle.model.specs.Tree.{FFFF}
 use Rattle.sweep_laws.specs.SegmentTree.{slots, entries, entriesIn, SegmentTree, Cleared, Inserted, Removed, Clearable, Insertable}
 use Rattle.sweep_laws.specs.EntryLaws.{slots-length, slot-cell, vacant-slot, entries-insert, entries-remove, no-entries}
@@ -136,7 +136,7 @@ module _ (kept width p : ℕ) where
 -- it has come up to `node`, where the smallest place is `least`: every inner node but its parent is right
 pub record Removing (kept width : ℕ) (old new : List ℕ) (node least : ℕ) : Type 0 where
   pub stored : Stored kept width old new
-  pub above : kept ≤ node
+  pub from-kept : kept ≤ node
   pub within : node < 2 * width
   pub least-is : least ≡ getD new node 0
   pub inner : (n : ℕ) → kept ≤ n → n < width → n ≢ node / 2 → getD new n 0 ≡ min (getD new (2 * n) 0) (getD new (2 * n + 1) 0)
@@ -161,7 +161,7 @@ module _ (kept width : ℕ) (cells : List ℕ) (slot : ℕ) (s : SegmentTree kep
   removing-slot =
       record {
         stored = stored-slot kept width cells slot FFFF s inside;
-        above = omega (arith, s .within);
+        from-kept = omega (arith, s .within);
         within = omega arith;
         least-is = sym (getD-set-same cells (width + slot) FFFF 0 (omega (arith, s .room)));
         inner = stored-inner kept width cells slot FFFF s inside;
@@ -185,7 +185,7 @@ removing-step kept width old new node least v h v-is r =
     let both : v ≡ min (getD new (2 * m) 0) (getD new (2 * m + 1) 0) = v-is ∙ ap (λ (x : ℕ). min x (getD new (4 * m + 1 - node) 0)) (r .least-is) ∙ siblings new node in
     record {
       stored = stored-node kept width old new m v below (r .stored);
-      above = omega arith;
+      from-kept = omega arith;
       within = omega arith;
       least-is = sym (getD-set-same new m v 0 inside);
       inner = λ n a b other.

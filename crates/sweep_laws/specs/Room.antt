@@ -2,10 +2,10 @@
 use Prim.Native.Nat.{ℕ, _+_, _*_, _^_, _≤_}
 use mathlib.Core.Path.{_≡_}
 use native.Mathlib.Omega.{arith}
-use Rattle.model.specs.Visits.{levels}
-use Rattle.schedule.specs.InWork.{treePart}
-use Rattle.laws.specs.Levels.{levels-least}
 use lib.Pow.{pow-mono}
+use Rattle.model.specs.Visits.{levels}
+use Rattle.laws.specs.Levels.{levels-least}
+use Rattle.schedule.specs.InWork.{treePart}
 
 -- eight times a power of two that is at least the number of places
 pub sweep-room : (n l : ℕ) → n ≤ 2 ^ l → treePart * n + 2 * 2 ^ levels n ≤ 8 * 2 ^ l

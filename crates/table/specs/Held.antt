@@ -11,12 +11,12 @@ use lib.Seq.{drop-set-lt, take-suc-set, drop-drop, length-take-le}
 use Rattle.model.specs.Verdict.{accepted, refused, _then_}
 use Rattle.model.specs.Tree.{FFFF, layoutLimit, rightParent, layoutsFrom}
 use Rattle.model.specs.Table.{extended}
+use Rattle.model.specs.declared.Refusal.{Refusal}
+use Rattle.laws.specs.Verdicts.{passed}
 use Rattle.table.specs.Unchecked.{halted, unchecked}
 use Rattle.table.specs.Steps.{uncheckedFrom, endedAt, LayoutLine, JobLine, EndLine, Unused, Room, Roomy, BuffersReady, held, SoFar, stopVerdict, LinesRead}
 use Rattle.table.specs.Lines.{no-bytes}
 use Rattle.table.specs.declared.unchecked.Stop.{Stop}
-use Rattle.model.specs.declared.Refusal.{Refusal}
-use Rattle.laws.specs.Verdicts.{passed}
 use Rattle.table.specs.declared.unchecked.Stop.the-variants as stop
 
 -- ---- cells

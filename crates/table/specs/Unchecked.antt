@@ -16,9 +16,9 @@ use Rattle.model.specs.Tree.{ancestorOrSelf}
 use Rattle.model.specs.Jobs.{Table, jobs, jobLimit, top, bottom, jobVerdict}
 use Rattle.model.specs.Planning.{jobsVerdict}
 use Rattle.model.specs.Table.{Reading, read, stopped, Line, lines, layoutFrame, jobFrame, soloFrame, endFrame, frameOf, isEnd, outOfOrder, contentVerdict, frameVerdict, withJob, extended, unlessRefused, readFrame, readLines, emptyTable, readTable}
+use Rattle.model.specs.Table as Format
 use Rattle.laws.specs.Numbers.{range-more, range-agree}
 use Rattle.laws.specs.Verdicts.{then-append, then-last}
-use Rattle.model.specs.Table as Format
 
 -- where reading stopped: the table so far, whether the end was read, and the refusal, if there is one
 pub record Halted : Type 0 where

@@ -21,17 +21,17 @@ use Rattle.model.specs.declared.Counts.{Counts}
 use Rattle.model.specs.declared.TableRead.{TableRead}
 use Rattle.model.specs.declared.TableRead.the-variants.{Read, Refused}
 use Rattle.laws.specs.Numbers.{numbers-mem}
+use Rattle.laws.specs.Verdicts.{not-refused}
+use Rattle.laws.specs.Booleans.{or-false-both}
 use Rattle.tree_laws.specs.WellFormed.{Tree, well-formed}
 use Rattle.settle.specs.Spanned.{Spanned}
 use Rattle.jobs.specs.Accepted.{Accepted, table-accepted}
 use Rattle.jobs.specs.Checks.{checkVerdict, JobsChecked}
 use Rattle.jobs.specs.declared.JobCheck.{JobCheck}
+use Rattle.jobs.specs.declared.JobCheck.the-variants as check
 use Rattle.table.specs.Unchecked.{onItsLine, checked, read-checked}
 use Rattle.table.specs.Steps.{Unused, Spare, Roomy, BuffersReady, held, Holds, stopVerdict, LinesRead}
 use Rattle.table.specs.declared.unchecked.Stop.{Stop}
-use Rattle.laws.specs.Verdicts.{not-refused}
-use Rattle.laws.specs.Booleans.{or-false-both}
-use Rattle.jobs.specs.declared.JobCheck.the-variants as check
 
 -- ---- the lines
 
