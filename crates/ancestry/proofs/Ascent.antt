@@ -12,7 +12,7 @@ use lib.Dec.{leb, ltb}
 use borrow.Author.Tests.{lt-ltb, le-ltb, le-leb, lt-leb}
 use Rattle.model.specs.Tree.{layoutLimit, depth, firstLeaf, lastLeaf}
 use Rattle.tree_laws.specs.WellFormed.{Tree}
-use Rattle.tree_laws.specs.Chain.{AncestorOrSelf, self, up, ancestor-root, ancestor-trans, ancestor-cases, ancestor-linear, ancestor-le}
+use Rattle.tree_laws.specs.Ancestors.{AncestorOrSelf, self, up, ancestor-root, ancestor-trans, ancestor-cases, ancestor-linear, ancestor-le}
 use Rattle.tree_laws.specs.Spans.{nested, ancestor-span, one-first-leaf, reaching-ancestor}
 use Rattle.settle.specs.Spanned.{firstCells, lastCells, Spanned}
 use Rattle.ancestry.specs.Ancestry.{ProperAncestor, JumpPointers, Ascendable, Keeps, Ascended, LowestReaching, LowestCommonAncestor}
@@ -39,7 +39,7 @@ module _ (ps cells jumps : List ℕ) (x leaf : ℕ) (c : Ascendable ps cells jum
         at zero e = let z : lastLeaf ps x ≡ lastLeaf ps 0 = rw e in absurd (omega (arith, c .reached))
         at (suc y) e = omega arith
 
-    -- x does not reach it, so what does is above the parent
+    -- x does not reach it, so what does is an ancestor of the parent
     pub by-parent : (r : ℕ) → r ≡ getD ps x 0 → Ascended ps x leaf r
     by-parent r e = rw e (record { proper = record { ancestor = up later self; smaller = tree .smaller x later }; keeps = keeps })
       where
@@ -59,7 +59,7 @@ module _ (ps cells jumps : List ℕ) (x leaf : ℕ) (c : Ascendable ps cells jum
       pub jump-inside : j < layoutLimit
       jump-inside = omega (arith, jump-known, tree .small)
 
-      -- where the jump leads does not reach it either, so what does, being above x, is above that: spans are nested
+      -- where the jump leads does not reach it either, so what does, being an ancestor of x, is one of that: spans are nested
       pub by-jump : (r : ℕ) → r ≡ getD cells (lastCells + j) 0 → r < leaf → Ascended ps x leaf j
       by-jump r q still = record { proper = jumped; keeps = keeps }
         where

@@ -8,7 +8,7 @@ use lib.ListN.{length, getD, set, length-set, replicate, length-replicate, getD-
 use lib.Seq.{getD-set-same, getD-set-other}
 use Rattle.model.specs.Tree.{layoutLimit}
 use Rattle.tree_laws.specs.WellFormed.{Tree}
-use Rattle.tree_laws.specs.Chain.{AncestorOrSelf, self, up, ancestor-trans, ancestor-le, ancestor-depth}
+use Rattle.tree_laws.specs.Ancestors.{AncestorOrSelf, self, up, ancestor-trans, ancestor-le, ancestor-depth}
 use Rattle.ancestry.specs.Ancestry.{ProperAncestor, JumpPointersBelow, JumpPointers, Jumpable}
 
 -- every jump leads to an ancestor, that of layout 0 to itself

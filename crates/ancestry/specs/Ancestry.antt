@@ -9,7 +9,7 @@ use lib.ListN.{length, getD}
 use Rattle.model.specs.Tree.{layoutLimit, lastLeaf}
 use Rattle.model.specs.Jobs.{Table, jobs, bottom, shares, deepestShared}
 use Rattle.tree_laws.specs.WellFormed.{Tree}
-use Rattle.tree_laws.specs.Chain.{AncestorOrSelf, ancestor-le}
+use Rattle.tree_laws.specs.Ancestors.{AncestorOrSelf, ancestor-le}
 use Rattle.tree_laws.specs.Sharing.{shares-symmetric}
 use Rattle.tree_laws.specs.Deepest as deepest
 use Rattle.settle.specs.Spanned.{Spanned}

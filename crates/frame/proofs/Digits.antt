@@ -1,9 +1,8 @@
 -- Laws of digits in the shapes that the code asks: one byte, the four digits of a field, the two of a kind.
--- Assumes nothing.
 use Prim.Native.Nat.{ℕ, _+_, _-_, _*_, _<_, _≤_}
 use mathlib.Core.Path.{_≡_, refl, sym, _∙_}
 use mathlib.Core.Logic.{_⊎_, inl, inr, ⊎-elim, _≢_}
-use mathlib.Core.Bool.{Bool, true, false, cond, _&&_, true≢false, and-true, and-false, or-false}
+use mathlib.Core.Bool.{Bool, true, false, cond, _&&_, true≢false, and-true, and-false, or-false, and-eq-true-iff}
 use mathlib.Core.List.{List, [], _∷_}
 use native.Mathlib.Omega.{arith}
 use native.Mathlib.Nat.{add-zero}
@@ -13,15 +12,8 @@ use lib.Dec.{eqb, ltb, leb}
 use borrow.Author.Tests.{ne-eqb, eqb-true, eqb-false, eq-eqb, ltb-true, leb-true, leb-false, le-leb, lt-leb, lt-ltb, le-ltb}
 use Rattle.model.specs.Lists.{allOf}
 use Rattle.model.specs.Table.{isDigit, digitValue, numberAfter, kindOf}
+use Rattle.laws.specs.Booleans.{answers, same-test}
 use Rattle.frame.specs.Fields.{digitRead, DigitByte, DigitValues, FieldRead, KindRead}
-use Rattle.tree_laws.specs.Lists.{answers}
-use Rattle.frame.specs.Lines.{both-true}
-
--- two tests that imply each other
-same-test : (x y : Bool) → (x ≡ true → y ≡ true) → (y ≡ true → x ≡ true) → x ≡ y
-same-test true y f g = sym (f refl)
-same-test false true f g = g refl
-same-test false false f g = refl
 
 -- ---- one byte
 
@@ -207,16 +199,16 @@ kind-bytes (a ∷ b ∷ s) k h u = same-test _ _ to-bytes of-bytes
   where
     to-bytes : (allOf isDigit (a ∷ b ∷ []) && eqb (kindOf (a ∷ b ∷ s)) k) ≡ true → (eqb a 48 && eqb b (48 + k)) ≡ true
     to-bytes e =
-        let p = both-true (allOf isDigit (a ∷ b ∷ [])) (eqb (kindOf (a ∷ b ∷ s)) k) e in
-        let d = both-true (isDigit a) (isDigit b && true) (p .0) in
-        let f = both-true (isDigit b) true (d .1) in
+        let p = and-eq-true-iff (allOf isDigit (a ∷ b ∷ [])) (eqb (kindOf (a ∷ b ∷ s)) k) .0 e in
+        let d = and-eq-true-iff (isDigit a) (isDigit b && true) .0 (p .0) in
+        let f = and-eq-true-iff (isDigit b) true .0 (d .1) in
         let n = eqb-true (kindOf (a ∷ b ∷ s)) k (p .1) in
         let q = spelled a b k u (digit a (d .0)) (digit b (f .0)) (omega arith) in
         rw (eq-eqb a 48 (q .0), eq-eqb b (48 + k) (q .1))
 
     of-bytes : (eqb a 48 && eqb b (48 + k)) ≡ true → (allOf isDigit (a ∷ b ∷ []) && eqb (kindOf (a ∷ b ∷ s)) k) ≡ true
     of-bytes e =
-        let p = both-true (eqb a 48) (eqb b (48 + k)) e in
+        let p = and-eq-true-iff (eqb a 48) (eqb b (48 + k)) .0 e in
         let first = eqb-true a 48 (p .0) in
         let second = eqb-true b (48 + k) (p .1) in
         let x = low-digit a (omega arith) (omega arith) in

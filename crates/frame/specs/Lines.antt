@@ -1,5 +1,5 @@
 -- What the bytes at fixed positions tell of the first line: n digits and then 0A are a line, and where neither 6 nor 10 digits stand
--- before a 0A, the first line is no frame, however long it is. Assumes nothing.
+-- before a 0A, the first line is no frame, however long it is.
 use Prim.Native.Nat.{ℕ, zero, suc, _+_, _<_, _≤_}
 use mathlib.Core.Path.{_≡_, refl, sym, ap, subst, _∙_}
 use mathlib.Core.Bool.{Bool, true, false, cond, _||_, _&&_, true≢false, and-true, and-false, and-eq-true-iff}
@@ -33,9 +33,6 @@ digitLine n s = allOf isDigit (take n s) && eqb (getD s n 0) 10
 
 -- ---- lines and 0A
 
-pub both-true : (a b : Bool) → (a && b) ≡ true → (a ≡ true) × (b ≡ true)
-both-true a b = and-eq-true-iff a b .0
-
 -- 0A is no digit
 digit-not-end : (b : ℕ) → isDigit b ≡ true → eqb b 10 ≡ false
 unfolding isDigit
@@ -49,7 +46,7 @@ lines-of-digits zero [] d e = absurd (omega arith)
 lines-of-digits zero (b ∷ bs) d e = rw (eq-eqb b 10 e)
 lines-of-digits (suc n) [] d e = absurd (omega arith)
 lines-of-digits (suc n) (b ∷ bs) d e =
-    let p = both-true (isDigit b) (allOf isDigit (take n bs)) d in
+    let p = and-eq-true-iff (isDigit b) (allOf isDigit (take n bs)) .0 d in
     rw (digit-not-end b (p .0), lines-of-digits n bs (p .1) e)
 
 -- l stands at the front, with 0A after it
@@ -122,20 +119,20 @@ other-digits l h k = rw (ne-eqb (length l) 6 h, ne-eqb (length l) 10 k) (simp an
 module _ (n : ℕ) (s : List ℕ) (h : digitLine n s ≡ true) where
   pub digit-line-within : n < length s
   unfolding digitLine
-  digit-line-within = end-within s n (eqb-true (getD s n 0) 10 (both-true (allOf isDigit (take n s)) (eqb (getD s n 0) 10) h .1))
+  digit-line-within = end-within s n (eqb-true (getD s n 0) 10 (and-eq-true-iff (allOf isDigit (take n s)) (eqb (getD s n 0) 10) .0 h .1))
 
   -- the lines after it
   digit-line-first : lines s ≡ firstLine s ∷ lines (drop (suc n) s)
   unfolding digitLine firstLine
   digit-line-first =
-      let p = both-true (allOf isDigit (take n s)) (eqb (getD s n 0) 10) h in
+      let p = and-eq-true-iff (allOf isDigit (take n s)) (eqb (getD s n 0) 10) .0 h in
       rw (lines-of-digits n s (p .0) (eqb-true (getD s n 0) 10 (p .1)))
 
   -- its frame
   digit-line-frame : frameOf (firstLine s) ≡ frameOfKind (take n s)
   unfolding digitLine firstLine frameOf
   digit-line-frame =
-      let p = both-true (allOf isDigit (take n s)) (eqb (getD s n 0) 10) h in
+      let p = and-eq-true-iff (allOf isDigit (take n s)) (eqb (getD s n 0) 10) .0 h in
       rw (lines-of-digits n s (p .0) (eqb-true (getD s n 0) 10 (p .1)), p .0)
 
 -- 6 digits and 0A: a layout or no frame

@@ -1,4 +1,4 @@
--- The answers of the public operations as one number each, for callers in another language. Assumes nothing.
+-- The answers of the public operations as one number each, for callers in another language.
 use Prim.Native.Nat.{ℕ, _+_, _*_}
 use mathlib.Core.Path.{_≡_}
 use mathlib.Core.List.{List, _++_}

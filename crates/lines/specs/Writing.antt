@@ -8,8 +8,8 @@ use lib.ListN.{length, take, getD, set, replicate, length-set, replicate-append-
 use lib.Seq.{take-suc-set, take-all, length-take-le}
 use Rattle.model.specs.Lists.{numbers, numbersFrom}
 use Rattle.model.specs.Verdict.{padded}
-use Rattle.tree_laws.specs.Numbers.{numbers-at}
 use Rattle.model.specs.Output.{digit, hex, pairLine, singleLine, totalsLine, refusalBytes}
+use Rattle.laws.specs.Numbers.{numbers-at}
 
 -- the n bytes are appended at `at`: the output then holds them up to r
 pub record Appended (n at : ℕ) (bytes out : List ℕ) (r : ℕ) (out′ : List ℕ) : Type 0 where

@@ -1,13 +1,11 @@
 -- Compatible jobs, those that may print in one pass: neither is solo, and they share (document 01, "Rival plans and the cut").
--- Assumes nothing.
 use Prim.Native.Nat.{ℕ, _≤_, _<_}
 use mathlib.Core.Path.{_≡_, refl, _∙_}
-use mathlib.Core.Bool.{true, not, _&&_, and-comm}
+use mathlib.Core.Bool.{true, not, _&&_, and-comm, and-eq-true-iff}
 use Rattle.model.specs.Jobs.{Table, jobs, solo, shares, topDepth}
 use Rattle.model.specs.Greedy.{compatible}
 use Rattle.tree_laws.specs.WellFormed.{Tree}
 use Rattle.tree_laws.specs.Sharing.{Downward, shares-symmetric, strong-elimination}
-use Rattle.matching.specs.Lists.{and-both}
 use Rattle.matching.specs.Maximum.{StrongElimination}
 
 module _ (tb : Table) where
@@ -15,8 +13,8 @@ module _ (tb : Table) where
   pub compatible-true : (i j : ℕ) → compatible tb i j ≡ true → (not (solo tb i) ≡ true) × (not (solo tb j) ≡ true) × (shares tb i j ≡ true)
   unfolding compatible
   compatible-true i j e =
-      let c = and-both (not (solo tb i) && not (solo tb j)) (shares tb i j) e in
-      let s = and-both (not (solo tb i)) (not (solo tb j)) (c .0) in
+      let c = and-eq-true-iff (not (solo tb i) && not (solo tb j)) (shares tb i j) .0 e in
+      let s = and-eq-true-iff (not (solo tb i)) (not (solo tb j)) .0 (c .0) in
       (s .0, s .1, c .1)
 
   -- and what makes it pass

@@ -1,9 +1,8 @@
 -- Our pairs in front of every cut are at least as many as a rival's (document 01, "Rival plans and the cut"; 000, Theorem 4).
 -- The pairs in front of a cut are the greedy rule's pairs of the jobs in front of it, and those are a maximum matching.
--- Assumes nothing.
 use Prim.Native.Nat.{ℕ, _≤_, _<_}
 use mathlib.Core.Path.{_≡_, sym, ap, _∙_}
-use mathlib.Core.Bool.{Bool, true, false, not}
+use mathlib.Core.Bool.{Bool, true, false, not, and-eq-true-iff}
 use mathlib.Core.List.{List, List·Memᴰ as Mem}
 use lib.ListN.{length, take, drop, take-append-drop}
 use lib.Dec.{ltb}
@@ -14,13 +13,13 @@ use Rattle.model.specs.Order.{runningOrder, place}
 use Rattle.model.specs.Greedy.{greedy, compatible, passes}
 use Rattle.model.specs.Rival.{Pair, Disjoint, Rules, Rival, inFront, pairsInFront, pairsOf}
 use Rattle.model.specs.Planning.{pairCount, partners}
-use Rattle.tree_laws.specs.Lists.{mem-all}
+use Rattle.laws.specs.Lists.{mem-all, all-imply, selected-all, select-pairwise}
+use Rattle.laws.specs.Booleans.{T-true}
+use Rattle.laws.specs.Counting.{count-length}
+use Rattle.laws.specs.Places.{take-mem, take-pairwise}
 use Rattle.tree_laws.specs.WellFormed.{Tree}
 use Rattle.tree_laws.specs.Sharing.{Downward}
-use Rattle.matching.specs.Lists.{and-both, T-true, all-imply, selected-all, selected-pairwise}
 use Rattle.matching.specs.Compatible.{true-compatible, compatible-eliminates}
-use Rattle.matching.specs.Counting.{count-length}
-use Rattle.matching.specs.Places.{take-mem, take-pairwise}
 use Rattle.matching.specs.Maximum.{Falls, Fits, greedy-maximum}
 use Rattle.matching.specs.Passes.{pairsIn, pairs-length}
 use Rattle.matching.specs.Prefix.{both, greedy-inside}
@@ -53,7 +52,7 @@ module _ (tb : Table) (m : ℕ) where
   front-fits : (p : Pair) → Rules tb p → inFront tb m p ≡ true → Fits (compatible tb) (λ (z : ℕ). Mem z (take m (runningOrder tb))) p
   unfolding inFront
   front-fits p r e =
-      let b = and-both (ltb (place tb (p .one)) m) (ltb (place tb (p .other)) m) e in
+      let b = and-eq-true-iff (ltb (place tb (p .one)) m) (ltb (place tb (p .other)) m) .0 e in
       record {
         one-in = place-front tb m (p .one) (r .one-known) (ltb-true (place tb (p .one)) m (b .0));
         other-in = place-front tb m (p .other) (r .other-known) (ltb-true (place tb (p .other)) m (b .1));
@@ -83,4 +82,4 @@ maximum-at-every-cut tb t down small ps rival m = rw (our-pairs-in-front tb smal
         (take-pairwise (Falls (topDepth tb)) m (runningOrder tb) (running-falls tb))
         (select (inFront tb m) ps)
         (all-imply (λ (p : Pair). Rules tb p × (inFront tb m p ≡ true)) (Fits (compatible tb) (λ (z : ℕ). Mem z front)) (select (inFront tb m) ps) (λ p r. front-fits tb m p (r .0) (r .1)) (selected-all (inFront tb m) (Rules tb) ps (rival .keep)))
-        (selected-pairwise (inFront tb m) Disjoint ps (rival .once))
+        (select-pairwise (inFront tb m) Disjoint ps (rival .once))

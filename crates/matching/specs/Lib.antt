@@ -1,8 +1,5 @@
 -- Laws of the matching rule (000, Algorithm 1), of the running order and of rival plans (document 01, "Rival plans and the cut").
-pub mod Lists
-pub mod Counting
-pub mod Places
-pub mod Sorting
+pub mod Without
 pub mod Maximum
 pub mod Passes
 pub mod Renamed

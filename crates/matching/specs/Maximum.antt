@@ -11,11 +11,11 @@ use native.Mathlib.Decide.{ℕ-discrete}
 use native.Mathlib.Omega.{arith}
 use lib.ListN.{length}
 use Rattle.model.specs.Lists.{find, total, All, AllPairs}
-use Rattle.model.specs.Greedy.{without, turn, turns, greedy}
+use Rattle.model.specs.Greedy.{without, greedyStep, greedySteps, greedy}
 use Rattle.model.specs.Rival.{Pair, Disjoint}
 use Rattle.model.specs.Planning.{pairCount}
-use Rattle.tree_laws.specs.Lists.{all-mem, mem-all}
-use Rattle.matching.specs.Lists.{mem-rest, found-or-none, find-some, find-none, find-first, without-mem, mem-without, without-pairwise, without-length}
+use Rattle.laws.specs.Lists.{all-mem, mem-all, mem-rest, found-or-none, find-some, find-none, find-first}
+use Rattle.matching.specs.Without.{without-mem, mem-without, without-pairwise, without-length}
 
 -- a test of two vertices, of those that `Vertex` holds of, that eliminates strongly in the order of falling D (000, Definition 11)
 pub record StrongElimination (Vertex : ℕ → Type 0) (D : ℕ → ℕ) (fit : ℕ → ℕ → Bool) : Type 0 where
@@ -87,9 +87,9 @@ module _ (Vertex : ℕ → Type 0) (D : ℕ → ℕ) (fit : ℕ → ℕ → Bool
         more fit (Without (Without P (p .one) (p .other)) a x) (Without (Without P a x) (p .one) (p .other)) (λ z h. ((h .0 .0, h .1, h .2), h .0 .1, h .0 .2)) rest r,
       )
 
-  -- the turn of v, where j is found among the later vertices vs
+  -- the step of v, where j is found among the later vertices vs
   module _ (v : ℕ) (vs : List ℕ) (known : All Vertex (v ∷ vs)) (falls : AllPairs (Falls D) (v ∷ vs)) (j : ℕ) (found : find (fit v) vs ≡ some j) where
-    -- the vertices at the turn of v
+    -- the vertices at the step of v
     abbrev Now : ℕ → Type 0
     Now z = Mem z (v ∷ vs)
 
@@ -100,15 +100,15 @@ module _ (Vertex : ℕ → Type 0) (D : ℕ → ℕ) (fit : ℕ → ℕ → Bool
     stays z h = mem-without j (mem-rest (h .0) (h .1)) (h .2)
 
     -- strong elimination: what v and j are paired with, another two, fit with each other
-    rejoin : (x y : ℕ) → Without Now v j x → Without Now v j y → fit v x ≡ true → fit j y ≡ true → fit y x ≡ true
-    rejoin x y hx hy tx ty =
+    others-fit : (x y : ℕ) → Without Now v j x → Without Now v j y → fit v x ≡ true → fit j y ≡ true → fit y x ≡ true
+    others-fit x y hx hy tx ty =
         let f = find-some (fit v) vs found in
         laws .eliminates v j x y (known .0) (vertex j (there (f .0))) (vertex x (hx .0)) (vertex y (hy .0))
         (all-mem (Falls D v) (falls .0) (f .0)) (all-mem (Falls D v) (falls .0) (mem-rest (hy .0) (hy .1)))
         (⊎-elim (λ (e : x ≡ j). rw e (omega arith)) (λ (d : D x ≤ D j). d) (find-first (fit v) (Falls D) (falls .1) (mem-rest (hx .0) (hx .1)) found tx))
         (f .1) tx ty
 
-    -- all but one pair of a matching, among the vertices left after the turn
+    -- all but one pair of a matching, among the vertices left after the step
     abbrev Remaining : List Pair → Type 0
     Remaining ps = (rest : List Pair) × (Matching fit (λ (z : ℕ). Mem z (without j vs)) rest × (length ps ≤ suc (length rest)))
 
@@ -126,18 +126,18 @@ module _ (Vertex : ℕ → Type 0) (D : ℕ → ℕ) (fit : ℕ → ℕ → Bool
     with-v ps rest x h t l (paired y hy gy ty rest′ k m) =
         let y-left : Without Now v j y = (hy .0, hy .1, gy) in
         remaining (Without Now v j) (λ z h. h) ps (record { one = y; other = x } ∷ rest′) (
-          record { one-in = y-left; other-in = h; differ = hy .2; fits = rejoin x y h y-left t ty },
+          record { one-in = y-left; other-in = h; differ = hy .2; fits = others-fit x y h y-left t ty },
           more fit (Without (Without Now v x) j y) (Without (Without Now v j) y x) (λ z h. ((h .0 .0, h .0 .1, h .1), h .2, h .0 .2)) rest′ m,
         )
         (omega arith)
 
     -- the exchange: whatever v and j were used for, one pair less does without them
     exchange : (ps : List Pair) → Matching fit Now ps → Remaining ps
-    exchange ps m = turn-of-v (place-of Now vertex v ps m)
+    exchange ps m = step-of-v (place-of Now vertex v ps m)
       where
-        turn-of-v : Place Now v ps → Remaining ps
-        turn-of-v (free r) = without-v ps (place-of (λ (z : ℕ). Now z × (z ≢ v)) (λ z h. vertex z (h .0)) j ps r)
-        turn-of-v (paired x h g t rest l r) = elim (ℕ-discrete x j) [
+        step-of-v : Place Now v ps → Remaining ps
+        step-of-v (free r) = without-v ps (place-of (λ (z : ℕ). Now z × (z ≢ v)) (λ z h. vertex z (h .0)) j ps r)
+        step-of-v (paired x h g t rest l r) = elim (ℕ-discrete x j) [
           | yes e ↦ remaining (Without Now v x) (λ z h. (h .0, h .1, rw (← e) (h .2))) ps rest r (omega arith)
           | no k ↦ with-v ps rest x (h, g, k) t l (place-of (Without Now v x) (λ z h. vertex z (h .0)) j rest r)
         ]
@@ -155,19 +155,19 @@ module _ (Vertex : ℕ → Type 0) (D : ℕ → ℕ) (fit : ℕ → ℕ → Bool
   none-left [] m = omega arith
   none-left (p ∷ ps) m = absurd (not-nil (m .0 .one-in))
 
-  -- by induction on the turns: a turn takes one pair off, and leaves the others possible
-  turns-maximum : (n : ℕ) (vs : List ℕ) → length vs ≤ n → All Vertex vs → AllPairs (Falls D) vs → (ps : List Pair) → Matching fit (λ (z : ℕ). Mem z vs) ps → length ps ≤ total pairCount (turns n fit vs)
-  unfolding turns turn total pairCount
-  turns-maximum zero [] h known falls ps m = none-left ps m
-  turns-maximum zero (v ∷ vs) h known falls ps m = absurd (omega arith)
-  turns-maximum (suc n) [] h known falls ps m = none-left ps m
-  turns-maximum (suc n) (v ∷ vs) h known falls ps m = ⊎-elim
+  -- by induction on the turns: a step takes one pair off, and leaves the others possible
+  steps-maximum : (n : ℕ) (vs : List ℕ) → length vs ≤ n → All Vertex vs → AllPairs (Falls D) vs → (ps : List Pair) → Matching fit (λ (z : ℕ). Mem z vs) ps → length ps ≤ total pairCount (greedySteps n fit vs)
+  unfolding greedySteps greedyStep total pairCount
+  steps-maximum zero [] h known falls ps m = none-left ps m
+  steps-maximum zero (v ∷ vs) h known falls ps m = absurd (omega arith)
+  steps-maximum (suc n) [] h known falls ps m = none-left ps m
+  steps-maximum (suc n) (v ∷ vs) h known falls ps m = ⊎-elim
       (λ (f : (j : ℕ) × (find (fit v) vs ≡ some j)).
       let j = f .0 in
       let r = exchange v vs known falls j (f .1) ps m in
-      let step = turns-maximum n (without j vs) (omega (arith, without-length j vs)) (mem-all Vertex (without j vs) (λ z m. all-mem Vertex (known .1) (without-mem j vs m .0))) (without-pairwise (Falls D) j vs (falls .1)) (r .0) (r .1 .0) in
+      let step = steps-maximum n (without j vs) (omega (arith, without-length j vs)) (mem-all Vertex (without j vs) (λ z m. all-mem Vertex (known .1) (without-mem j vs m .0))) (without-pairwise (Falls D) j vs (falls .1)) (r .0) (r .1 .0) in
       rw (f .1) (omega (arith, r .1 .1)))
-      (λ (e : find (fit v) vs ≡ none). rw e (omega (arith, turns-maximum n vs (omega arith) (known .1) (falls .1) ps (alone v vs known e ps m))))
+      (λ (e : find (fit v) vs ≡ none). rw e (omega (arith, steps-maximum n vs (omega arith) (known .1) (falls .1) ps (alone v vs known e ps m))))
       (found-or-none (find (fit v) vs))
 
   -- pairs without a common vertex take their vertices out one after the other
@@ -197,4 +197,4 @@ module _ (Vertex : ℕ → Type 0) (D : ℕ → ℕ) (fit : ℕ → ℕ → Bool
       → AllPairs Disjoint ps
       → length ps ≤ total pairCount (greedy fit vs)
   unfolding greedy
-  greedy-maximum vs known falls ps a d = turns-maximum (length vs) vs (omega arith) known falls ps (take-out (λ (z : ℕ). Mem z vs) ps a d)
+  greedy-maximum vs known falls ps a d = steps-maximum (length vs) vs (omega arith) known falls ps (take-out (λ (z : ℕ). Mem z vs) ps a d)

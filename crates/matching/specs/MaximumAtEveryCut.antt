@@ -1,5 +1,4 @@
 -- The plan that no rival beats at any cut (document 01, "Rival plans and the cut"), as it stands in the first M cells of a partner buffer.
--- Assumes nothing.
 use Prim.Native.Nat.{ℕ, _+_, _≤_, _<_}
 use mathlib.Core.Path.{_≡_, refl, sym, _∙_}
 use mathlib.Core.Logic.{⊎-elim}
@@ -16,12 +15,12 @@ use Rattle.model.specs.Order.{place}
 use Rattle.model.specs.Rival.{Pair, Rules, Rival, inFront, pairsInFront, pairsOf, passesOf, MaximumAtEveryCut}
 use Rattle.model.specs.Planning.{partnerIn, partners, pairs, singles}
 use Rattle.model.specs.Greedy.{passes}
-use Rattle.tree_laws.specs.Lists.{answers, mem-all}
-use Rattle.tree_laws.specs.Numbers.{numbers-mem, numbers-length}
+use Rattle.laws.specs.Booleans.{answers}
+use Rattle.laws.specs.Lists.{mem-all, all-imply}
+use Rattle.laws.specs.Numbers.{numbers-mem, numbers-length}
+use Rattle.laws.specs.Counting.{count-all}
 use Rattle.tree_laws.specs.WellFormed.{Tree}
 use Rattle.tree_laws.specs.Sharing.{Downward}
-use Rattle.matching.specs.Lists.{all-imply}
-use Rattle.matching.specs.Counting.{count-all}
 use Rattle.matching.specs.RunningOrder.{place-lt}
 use Rattle.matching.specs.Partners.{jobs-counted, partner-apart, partners-symmetric, our-pairs, our-pairs-all}
 use Rattle.matching.specs.Demand.{maximum-at-every-cut}

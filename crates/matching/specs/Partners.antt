@@ -1,9 +1,8 @@
 -- The partner buffer (document 01, "Rival plans and the cut"): the pairs read back from it are the pairs of the passes, and keep the rules.
--- Assumes nothing.
 use Prim.Native.Nat.{ℕ, suc, _+_, _*_, _-_, _≤_, _<_}
 use mathlib.Core.Path.{_≡_, refl, sym, ap, _∙_}
 use mathlib.Core.Logic.{_⊎_, inl, inr, ⊎-elim, _≢_}
-use mathlib.Core.Bool.{Bool, true, false, cond, _&&_, and-comm, and-false}
+use mathlib.Core.Bool.{Bool, true, false, cond, _&&_, and-comm, and-false, and-eq-true-iff}
 use mathlib.Core.List.{List, [], _∷_, List·Memᴰ as Mem, List·Memᴰ·head as here, List·Memᴰ·tail as there, List·Memᴰ·not-nil as not-nil, List·Memᴰ·cases-cons as mem-cons}
 use native.Mathlib.Decide.{decLt, ℕ-discrete}
 use native.Mathlib.Omega.{arith}
@@ -17,27 +16,27 @@ use Rattle.model.specs.Order.{runningOrder, place}
 use Rattle.model.specs.Greedy.{Pass, pair, single, compatible, passes}
 use Rattle.model.specs.Rival.{Pair, Disjoint, Rules, Rival, inFront, pairsInFront, pairsOf}
 use Rattle.model.specs.Planning.{partnerIn, partners, pairs, singles}
-use Rattle.tree_laws.specs.Lists.{Distinct, all-mem, mem-all, pairwise-imply, select-mem, mem-select, select-pairwise}
+use Rattle.laws.specs.Lists.{Distinct, all-mem, mem-all, pairwise-imply, select-mem, select-pairwise, map-all, map-pairwise}
+use Rattle.laws.specs.Counting.{count-length-all, count-agree, count-none, count-all, count-select, count-map, count-at}
+use Rattle.laws.specs.Booleans.{true-T}
+use Rattle.laws.specs.Numbers.{mem-numbers, numbers-mem, numbers-at, numbers-rise, numbers-distinct}
 use Rattle.matching.specs.Compatible.{compatible-true, compatible-symmetric}
-use Rattle.matching.specs.Counting.{count-length-all, count-agree, count-none, count-all, count-select, count-map, count-at}
 use Rattle.matching.specs.Passes.{passes-counted, pairsIn, vertices, pairs-length, greedy-distinct, greedy-mem, mem-greedy, greedy-count, greedy-fits, greedy-places}
-use Rattle.matching.specs.Lists.{and-both, true-T, all-member, member-all, map-all, map-mem, map-pairwise}
-use Rattle.tree_laws.specs.Numbers.{mem-numbers, numbers-mem, numbers-at, numbers-rise, numbers-distinct}
 use Rattle.matching.specs.RunningOrder.{running-mem, mem-running, running-length, running-distinct, place-lt}
 
 -- i and j are a pair of the passes, in one order or the other
-abbrev pub Joined : List Pass → ℕ → ℕ → Type 0
-Joined ps i j = Mem (record { one = i; other = j }) (pairsIn ps) ⊎ Mem (record { one = j; other = i }) (pairsIn ps)
+abbrev pub Matched : List Pass → ℕ → ℕ → Type 0
+Matched ps i j = Mem (record { one = i; other = j }) (pairsIn ps) ⊎ Mem (record { one = j; other = i }) (pairsIn ps)
 
-joined-turned : (ps : List Pass) {i j : ℕ} → Joined ps i j → Joined ps j i
-joined-turned ps (inl m) = inr m
-joined-turned ps (inr m) = inl m
+matched-symmetric : (ps : List Pass) {i j : ℕ} → Matched ps i j → Matched ps j i
+matched-symmetric ps (inl m) = inr m
+matched-symmetric ps (inr m) = inl m
 
-joined-later : (p : Pass) (ps : List Pass) {i j : ℕ} → Joined ps i j → Joined (p ∷ ps) i j
+matched-later : (p : Pass) (ps : List Pass) {i j : ℕ} → Matched ps i j → Matched (p ∷ ps) i j
 unfolding pairsIn
-joined-later (pair a b) ps (inl m) = inl (there m)
-joined-later (pair a b) ps (inr m) = inr (there m)
-joined-later (single a) ps r = r
+matched-later (pair a b) ps (inl m) = inl (there m)
+matched-later (pair a b) ps (inr m) = inr (there m)
+matched-later (single a) ps r = r
 
 -- one step of a look for a partner
 partner-one : (a b : ℕ) (ps : List Pass) {i : ℕ} → a ≡ i → partnerIn (pair a b ∷ ps) i ≡ b
@@ -53,15 +52,15 @@ unfolding partnerIn
 partner-later a b ps {i} n k = rw (ne-eqb a i n, ne-eqb b i k) refl
 
 -- a partner makes a pair with i
-pub partner-joined : (ps : List Pass) (i : ℕ) → partnerIn ps i ≢ FFFF → Joined ps i (partnerIn ps i)
+pub partner-matched : (ps : List Pass) (i : ℕ) → partnerIn ps i ≢ FFFF → Matched ps i (partnerIn ps i)
 unfolding partnerIn pairsIn
-partner-joined [] i h = absurd (h refl)
-partner-joined (single a ∷ ps) i h = partner-joined ps i h
-partner-joined (pair a b ∷ ps) i h = elim (ℕ-discrete a i) [
+partner-matched [] i h = absurd (h refl)
+partner-matched (single a ∷ ps) i h = partner-matched ps i h
+partner-matched (pair a b ∷ ps) i h = elim (ℕ-discrete a i) [
   | yes e ↦ rw (partner-one a b ps e) (inl (here (ap (λ (k : ℕ). record { one = k; other = b }) (sym e))))
   | no n ↦ elim (ℕ-discrete b i) [
     | yes e ↦ rw (partner-other a b ps n e) (inr (here (ap (λ (k : ℕ). record { one = a; other = k }) (sym e))))
-    | no k ↦ rw (partner-later a b ps n k) (joined-later (pair a b) ps (partner-joined ps i (λ q. h (partner-later a b ps n k ∙ q))))
+    | no k ↦ rw (partner-later a b ps n k) (matched-later (pair a b) ps (partner-matched ps i (λ q. h (partner-later a b ps n k ∙ q))))
   ]
 ]
 
@@ -74,10 +73,6 @@ pair-vertices (pair a b ∷ ps) {p} m = ⊎-elim
     (λ (m : Mem p (pairsIn ps)). let r = pair-vertices ps m in (there (there (r .0)), there (there (r .1))))
     (mem-cons m)
 pair-vertices (single a ∷ ps) m = let r = pair-vertices ps m in (there (r .0), there (r .1))
-
-joined-vertices : (ps : List Pass) {i j : ℕ} → Joined ps i j → Mem i (vertices ps) × Mem j (vertices ps)
-joined-vertices ps (inl m) = pair-vertices ps m
-joined-vertices ps (inr m) = let r = pair-vertices ps m in (r .1, r .0)
 
 -- a pair's vertices are one another's partners
 pub pair-partners : (ps : List Pass) → Distinct (vertices ps) → {p : Pair} → Mem p (pairsIn ps) → (partnerIn ps (p .one) ≡ p .other) × (partnerIn ps (p .other) ≡ p .one)
@@ -98,13 +93,13 @@ pair-partners (pair a b ∷ ps) d {p} m = ⊎-elim
 pair-partners (single a ∷ ps) d m = pair-partners ps (d .1) m
 
 -- whichever of the two stands first
-pub joined-partner : (ps : List Pass) → Distinct (vertices ps) → {i j : ℕ} → Joined ps i j → partnerIn ps i ≡ j
-joined-partner ps d (inl m) = pair-partners ps d m .0
-joined-partner ps d (inr m) = pair-partners ps d m .1
+pub matched-partner : (ps : List Pass) → Distinct (vertices ps) → {i j : ℕ} → Matched ps i j → partnerIn ps i ≡ j
+matched-partner ps d (inl m) = pair-partners ps d m .0
+matched-partner ps d (inr m) = pair-partners ps d m .1
 
 -- so a partner's partner is the job itself
 pub partner-back : (ps : List Pass) → Distinct (vertices ps) → (i : ℕ) → partnerIn ps i ≢ FFFF → partnerIn ps (partnerIn ps i) ≡ i
-partner-back ps d i h = joined-partner ps d (joined-turned ps (partner-joined ps i h))
+partner-back ps d i h = matched-partner ps d (matched-symmetric ps (partner-matched ps i h))
 
 -- what stands in no pass has no partner
 pub partner-none : (ps : List Pass) (i : ℕ) → All (λ (k : ℕ). i ≢ k) (vertices ps) → partnerIn ps i ≡ FFFF
@@ -193,7 +188,7 @@ module _ (n : ℕ) (cells : List ℕ) where
   our-cell : {i : ℕ} → Mem i (select ours (numbers n)) → (i < n) × (i < cell cells i) × (cell cells i < n)
   our-cell {i} m =
       let r = select-mem ours (numbers n) m in
-      let t = and-both (ltb i (cell cells i)) (ltb (cell cells i) n) (r .1) in
+      let t = and-eq-true-iff (ltb i (cell cells i)) (ltb (cell cells i) n) .0 (r .1) in
       (numbers-mem n (r .0), ltb-true i (cell cells i) (t .0), ltb-true (cell cells i) n (t .1))
 
   -- what holds of every i and its cell, where that is a greater number below n, holds of the pairs
@@ -201,11 +196,6 @@ module _ (n : ℕ) (cells : List ℕ) where
   unfolding pairsOf
   read-all P f = map-all (λ (i : ℕ). record { one = i; other = cell cells i }) P (select ours (numbers n))
       (mem-all (λ (i : ℕ). P (record { one = i; other = cell cells i })) (select ours (numbers n)) (λ i m. let k = our-cell m in f i (k .0) (k .1) (k .2)))
-
-  -- and every such i and its cell are one of them
-  read-mem : (i : ℕ) → i < n → i < cell cells i → cell cells i < n → Mem (record { one = i; other = cell cells i }) (pairsOf n cells)
-  unfolding pairsOf
-  read-mem i h l k = map-mem (λ (i : ℕ). record { one = i; other = cell cells i }) (mem-select ours (mem-numbers i n h) (rw (lt-ltb i (cell cells i) l, lt-ltb (cell cells i) n k) refl))
 
   -- pairs read from cells that tell each other have no number in common
   read-disjoint : ((i : ℕ) → i < n → cell cells i < n → cell cells (cell cells i) ≡ i) → AllPairs Disjoint (pairsOf n cells)
@@ -286,17 +276,17 @@ module _ (tb : Table) where
     pub partner-apart : (i : ℕ) → i < jobs tb → getD (partners tb) i FFFF ≢ i
     partner-apart i h e =
         let self : partnerIn (passes tb) i ≡ i = sym (partner-cell i h) ∙ e in
-        ⊎-elim not-both not-both (rw (← ap (Joined (passes tb) i) self) (partner-joined (passes tb) i (present i h (rw e h))))
+        ⊎-elim not-both not-both (rw (← ap (Matched (passes tb) i) self) (partner-matched (passes tb) i (present i h (rw e h))))
       where
         not-both : Mem (record { one = i; other = i }) (pairsIn (passes tb)) → ⊥
-        not-both m = omega (arith, all-member (λ (p : Pair). place tb (p .one) < place tb (p .other)) passes-places m)
+        not-both m = omega (arith, all-mem (λ (p : Pair). place tb (p .one) < place tb (p .other)) passes-places m)
 
     -- such two jobs are compatible
     pub cell-compatible : (i : ℕ) → i < jobs tb → getD (partners tb) i FFFF < jobs tb → compatible tb i (getD (partners tb) i FFFF) ≡ true
     cell-compatible i h k = rw (partner-cell i h) (⊎-elim
-        (λ m. all-member (λ (p : Pair). compatible tb (p .one) (p .other) ≡ true) passes-compatible m)
-        (λ m. compatible-symmetric tb i (partnerIn (passes tb) i) ∙ all-member (λ (p : Pair). compatible tb (p .one) (p .other) ≡ true) passes-compatible m)
-        (partner-joined (passes tb) i (present i h k)))
+        (λ m. all-mem (λ (p : Pair). compatible tb (p .one) (p .other) ≡ true) passes-compatible m)
+        (λ m. compatible-symmetric tb i (partnerIn (passes tb) i) ∙ all-mem (λ (p : Pair). compatible tb (p .one) (p .other) ≡ true) passes-compatible m)
+        (partner-matched (passes tb) i (present i h k)))
 
     -- our pairs, read from the partner buffer, keep the rules of a rival plan
     pub our-pairs-keep : All (Rules tb) (pairsOf (jobs tb) (partners tb))
@@ -317,19 +307,6 @@ module _ (tb : Table) where
     -- so they are themselves such a plan
     pub our-pairs : Rival tb (pairsOf (jobs tb) (partners tb))
     our-pairs = record { keep = our-pairs-keep; once = read-disjoint (jobs tb) (partners tb) partner-cells }
-
-    -- they are the pairs of the passes, by the smaller number
-    pub our-pairs-joined : All (λ (p : Pair). (p .one < p .other) × Joined (passes tb) (p .one) (p .other)) (pairsOf (jobs tb) (partners tb))
-    our-pairs-joined = read-all (jobs tb) (partners tb) (λ (p : Pair). (p .one < p .other) × Joined (passes tb) (p .one) (p .other))
-        (λ i h l k. (l, rw (partner-cell i h) (partner-joined (passes tb) i (present i h k))))
-
-    -- and all of those are among them
-    pub joined-our-pairs : (i j : ℕ) → Joined (passes tb) i j → i < j → Mem (record { one = i; other = j }) (pairsOf (jobs tb) (partners tb))
-    joined-our-pairs i j r l =
-        let known : (k : ℕ) → Mem k (vertices (passes tb)) → k < jobs tb = λ k m. all-mem (λ (k : ℕ). k < jobs tb) passes-known m in
-        let v = joined-vertices (passes tb) r in
-        let is : getD (partners tb) i FFFF ≡ j = partner-cell i (known i (v .0)) ∙ joined-partner (passes tb) passes-distinct r in
-        rw (← is) (read-mem (jobs tb) (partners tb) i (known i (v .0)) (rw is l) (rw is (known j (v .1))))
 
     -- as many of them pass a test of pairs as of the pairs of the passes
     pub our-pairs-count : (q : Pair → Bool) → ((i j : ℕ) → q (record { one = i; other = j }) ≡ q (record { one = j; other = i })) → countWhere q (pairsOf (jobs tb) (partners tb)) ≡ countWhere q (pairsIn (passes tb))
@@ -354,7 +331,7 @@ module _ (tb : Table) where
     pub our-pairs-all : pairsInFront tb (jobs tb) (pairsOf (jobs tb) (partners tb)) ≡ pairs tb
     unfolding pairs inFront
     our-pairs-all = our-pairs-in-front (jobs tb)
-        ∙ count-all (inFront tb (jobs tb)) (pairsIn (passes tb)) (member-all (λ (p : Pair). inFront tb (jobs tb) p ≡ true) (pairsIn (passes tb)) (λ p m. front p (pair-vertices (passes tb) m)))
+        ∙ count-all (inFront tb (jobs tb)) (pairsIn (passes tb)) (mem-all (λ (p : Pair). inFront tb (jobs tb) p ≡ true) (pairsIn (passes tb)) (λ p m. front p (pair-vertices (passes tb) m)))
         ∙ pairs-length (passes tb)
       where
         in-order : {j : ℕ} → Mem j (vertices (passes tb)) → place tb j < jobs tb

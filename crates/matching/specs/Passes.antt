@@ -1,5 +1,4 @@
--- The passes that the greedy rule makes (000, Algorithm 1): each vertex stands in one of them, the pairs fit, and the number of turns allowed does not matter.
--- Assumes nothing.
+-- The passes that the greedy rule makes (000, Algorithm 1): each vertex stands in one of them, the pairs fit, and the number of steps allowed does not matter.
 use Prim.Native.Nat.{ℕ, zero, suc, _+_, _*_, _≤_, _<_}
 use mathlib.Core.Path.{_≡_, refl, sym, ap, _∙_}
 use mathlib.Core.Logic.{⊎-elim, _≢_}
@@ -10,12 +9,12 @@ use native.Mathlib.Decide.{ℕ-discrete}
 use native.Mathlib.Omega.{arith}
 use lib.ListN.{length}
 use Rattle.model.specs.Lists.{indexOf, find, total, All, AllPairs}
-use Rattle.model.specs.Greedy.{Pass, pair, single, without, turn, turns, greedy}
+use Rattle.model.specs.Greedy.{Pass, pair, single, without, greedyStep, greedySteps, greedy}
 use Rattle.model.specs.Rival.{Pair}
 use Rattle.model.specs.Planning.{pairCount, singleCount}
-use Rattle.tree_laws.specs.Lists.{Distinct, all-mem, mem-all}
-use Rattle.matching.specs.Lists.{found-or-none, find-some, without-mem, mem-without, without-pairwise, without-length, without-one}
-use Rattle.matching.specs.Places.{index-rises}
+use Rattle.laws.specs.Lists.{Distinct, all-mem, mem-all, found-or-none, find-some}
+use Rattle.laws.specs.Places.{index-rises}
+use Rattle.matching.specs.Without.{without-mem, mem-without, without-pairwise, without-length, without-one}
 
 -- the pairs of the passes, in order
 unfoldable pub pairsIn : List Pass → List Pair
@@ -51,60 +50,60 @@ vertices-length (pair i j ∷ ps) = omega (arith, vertices-length ps)
 vertices-length (single i ∷ ps) = omega (arith, vertices-length ps)
 
 module _ (fit : ℕ → ℕ → Bool) where
-  -- ---- the turns
+  -- ---- the steps
 
-  -- a turn that finds j
-  pub turn-with : (n v : ℕ) (vs : List ℕ) {j : ℕ} → find (fit v) vs ≡ some j → turns (suc n) fit (v ∷ vs) ≡ pair v j ∷ turns n fit (without j vs)
-  unfolding turns turn
-  turn-with n v vs e = rw e refl
+  -- a step that finds j
+  pub step-with : (n v : ℕ) (vs : List ℕ) {j : ℕ} → find (fit v) vs ≡ some j → greedySteps (suc n) fit (v ∷ vs) ≡ pair v j ∷ greedySteps n fit (without j vs)
+  unfolding greedySteps greedyStep
+  step-with n v vs e = rw e refl
 
-  -- a turn that finds none
-  pub turn-alone : (n v : ℕ) (vs : List ℕ) → find (fit v) vs ≡ none → turns (suc n) fit (v ∷ vs) ≡ single v ∷ turns n fit vs
-  unfolding turns turn
-  turn-alone n v vs e = rw e refl
+  -- a step that finds none
+  pub step-alone : (n v : ℕ) (vs : List ℕ) → find (fit v) vs ≡ none → greedySteps (suc n) fit (v ∷ vs) ≡ single v ∷ greedySteps n fit vs
+  unfolding greedySteps greedyStep
+  step-alone n v vs e = rw e refl
 
-  -- more turns than vertices change nothing
-  pub turns-enough : (n m : ℕ) (vs : List ℕ) → length vs ≤ n → length vs ≤ m → turns n fit vs ≡ turns m fit vs
-  unfolding turns
-  turns-enough zero zero vs h k = refl
-  turns-enough zero (suc m) [] h k = refl
-  turns-enough zero (suc m) (v ∷ vs) h k = absurd (omega arith)
-  turns-enough (suc n) zero [] h k = refl
-  turns-enough (suc n) zero (v ∷ vs) h k = absurd (omega arith)
-  turns-enough (suc n) (suc m) [] h k = refl
-  turns-enough (suc n) (suc m) (v ∷ vs) h k = ⊎-elim
+  -- more steps than vertices change nothing
+  pub steps-enough : (n m : ℕ) (vs : List ℕ) → length vs ≤ n → length vs ≤ m → greedySteps n fit vs ≡ greedySteps m fit vs
+  unfolding greedySteps
+  steps-enough zero zero vs h k = refl
+  steps-enough zero (suc m) [] h k = refl
+  steps-enough zero (suc m) (v ∷ vs) h k = absurd (omega arith)
+  steps-enough (suc n) zero [] h k = refl
+  steps-enough (suc n) zero (v ∷ vs) h k = absurd (omega arith)
+  steps-enough (suc n) (suc m) [] h k = refl
+  steps-enough (suc n) (suc m) (v ∷ vs) h k = ⊎-elim
       (λ (f : (j : ℕ) × (find (fit v) vs ≡ some j)).
       let j = f .0 in
-      rw (turn-with n v vs (f .1), turn-with m v vs (f .1)) (ap (λ (l : List Pass). pair v j ∷ l) (turns-enough n m (without j vs) (omega (arith, without-length j vs)) (omega (arith, without-length j vs)))))
-      (λ (e : find (fit v) vs ≡ none). rw (turn-alone n v vs e, turn-alone m v vs e) (ap (λ (l : List Pass). single v ∷ l) (turns-enough n m vs (omega arith) (omega arith))))
+      rw (step-with n v vs (f .1), step-with m v vs (f .1)) (ap (λ (l : List Pass). pair v j ∷ l) (steps-enough n m (without j vs) (omega (arith, without-length j vs)) (omega (arith, without-length j vs)))))
+      (λ (e : find (fit v) vs ≡ none). rw (step-alone n v vs e, step-alone m v vs e) (ap (λ (l : List Pass). single v ∷ l) (steps-enough n m vs (omega arith) (omega arith))))
       (found-or-none (find (fit v) vs))
 
   -- they are the greedy rule
-  pub turns-greedy : (n : ℕ) (vs : List ℕ) → length vs ≤ n → turns n fit vs ≡ greedy fit vs
+  pub steps-greedy : (n : ℕ) (vs : List ℕ) → length vs ≤ n → greedySteps n fit vs ≡ greedy fit vs
   unfolding greedy
-  turns-greedy n vs h = turns-enough n (length vs) vs h (omega arith)
+  steps-greedy n vs h = steps-enough n (length vs) vs h (omega arith)
 
-  -- ---- the greedy rule, turn by turn
+  -- ---- the greedy rule, step by step
 
   -- no vertices, no passes
   pub greedy-done : greedy fit [] ≡ []
-  unfolding greedy turns
+  unfolding greedy greedySteps
   greedy-done = refl
 
   -- the first vertex takes the first later one that it fits with
   pub greedy-with : (v : ℕ) (vs : List ℕ) {j : ℕ} → find (fit v) vs ≡ some j → greedy fit (v ∷ vs) ≡ pair v j ∷ greedy fit (without j vs)
   unfolding greedy
-  greedy-with v vs {j} e = turn-with (length vs) v vs e ∙ ap (λ (l : List Pass). pair v j ∷ l) (turns-greedy (length vs) (without j vs) (without-length j vs))
+  greedy-with v vs {j} e = step-with (length vs) v vs e ∙ ap (λ (l : List Pass). pair v j ∷ l) (steps-greedy (length vs) (without j vs) (without-length j vs))
 
   -- or stays alone
   pub greedy-alone : (v : ℕ) (vs : List ℕ) → find (fit v) vs ≡ none → greedy fit (v ∷ vs) ≡ single v ∷ greedy fit vs
   unfolding greedy
-  greedy-alone v vs e = turn-alone (length vs) v vs e
+  greedy-alone v vs e = step-alone (length vs) v vs e
 
   -- the passes ps of the vertices vs
   pub data Run : List ℕ → List Pass → Type 0 where
     done : Run [] []
-    joined : {v j : ℕ} {vs : List ℕ} {ps : List Pass} → find (fit v) vs ≡ some j → Run (without j vs) ps → Run (v ∷ vs) (pair v j ∷ ps)
+    matched : {v j : ℕ} {vs : List ℕ} {ps : List Pass} → find (fit v) vs ≡ some j → Run (without j vs) ps → Run (v ∷ vs) (pair v j ∷ ps)
     alone : {v : ℕ} {vs : List ℕ} {ps : List Pass} → find (fit v) vs ≡ none → Run vs ps → Run (v ∷ vs) (single v ∷ ps)
 
   -- the greedy rule makes them
@@ -116,7 +115,7 @@ module _ (fit : ℕ → ℕ → Bool) where
       running zero (v ∷ vs) h = absurd (omega arith)
       running (suc n) [] h = rw greedy-done done
       running (suc n) (v ∷ vs) h = ⊎-elim
-          (λ (f : (j : ℕ) × (find (fit v) vs ≡ some j)). rw (greedy-with v vs (f .1)) (joined (f .1) (running n (without (f .0) vs) (omega (arith, without-length (f .0) vs)))))
+          (λ (f : (j : ℕ) × (find (fit v) vs ≡ some j)). rw (greedy-with v vs (f .1)) (matched (f .1) (running n (without (f .0) vs) (omega (arith, without-length (f .0) vs)))))
           (λ (e : find (fit v) vs ≡ none). rw (greedy-alone v vs e) (alone e (running n vs (omega arith))))
           (found-or-none (find (fit v) vs))
 
@@ -126,7 +125,7 @@ module _ (fit : ℕ → ℕ → Bool) where
   pub run-mem : {x : ℕ} {vs : List ℕ} {ps : List Pass} → Run vs ps → Mem x (vertices ps) → Mem x vs
   unfolding vertices
   run-mem done m = m
-  run-mem {x} (joined {v = v} {j = j} {vs = vs} {ps = ps} e r) m = ⊎-elim
+  run-mem {x} (matched {v = v} {j = j} {vs = vs} {ps = ps} e r) m = ⊎-elim
       (λ (s : x ≡ v). here s)
       (λ m. ⊎-elim
       (λ (s : x ≡ j). there (mem-cast s (find-some (fit v) vs e .0)))
@@ -139,7 +138,7 @@ module _ (fit : ℕ → ℕ → Bool) where
   pub mem-run : {x : ℕ} {vs : List ℕ} {ps : List Pass} → Run vs ps → Mem x vs → Mem x (vertices ps)
   unfolding vertices
   mem-run done m = m
-  mem-run {x} (joined {v = v} {j = j} {vs = vs} {ps = ps} e r) m = ⊎-elim
+  mem-run {x} (matched {v = v} {j = j} {vs = vs} {ps = ps} e r) m = ⊎-elim
       (λ (s : x ≡ v). here s)
       (λ (m : Mem x vs). there (elim (ℕ-discrete x j) [
         | yes s ↦ here s
@@ -152,7 +151,7 @@ module _ (fit : ℕ → ℕ → Bool) where
   pub run-distinct : {vs : List ℕ} {ps : List Pass} → Run vs ps → Distinct vs → Distinct (vertices ps)
   unfolding vertices
   run-distinct done d = tt
-  run-distinct (joined {v = v} {j = j} {vs = vs} {ps = ps} e r) d =
+  run-distinct (matched {v = v} {j = j} {vs = vs} {ps = ps} e r) d =
       let others : (y : ℕ) → Mem y (vertices ps) → Mem y vs × (y ≢ j) = λ y m. without-mem j vs (run-mem r m) in (
         (all-mem (λ (y : ℕ). v ≢ y) (d .0) (find-some (fit v) vs e .0), mem-all (λ (y : ℕ). v ≢ y) (vertices ps) (λ y m. all-mem (λ (y : ℕ). v ≢ y) (d .0) (others y m .0))),
         (mem-all (λ (y : ℕ). j ≢ y) (vertices ps) (λ y m s. others y m .1 (sym s)), run-distinct r (without-pairwise (λ (x y : ℕ). x ≢ y) j vs (d .1))),
@@ -163,7 +162,7 @@ module _ (fit : ℕ → ℕ → Bool) where
   pub run-length : {vs : List ℕ} {ps : List Pass} → Run vs ps → Distinct vs → length vs ≡ length (vertices ps)
   unfolding vertices
   run-length done d = refl
-  run-length (joined {v = v} {j = j} {vs = vs} {ps = ps} e r) d =
+  run-length (matched {v = v} {j = j} {vs = vs} {ps = ps} e r) d =
       omega (arith, without-one j (d .1) (find-some (fit v) vs e .0), run-length r (without-pairwise (λ (x y : ℕ). x ≢ y) j vs (d .1)))
   run-length (alone e r) d = ap suc (run-length r (d .1))
 
@@ -171,14 +170,14 @@ module _ (fit : ℕ → ℕ → Bool) where
   pub run-fits : {vs : List ℕ} {ps : List Pass} → Run vs ps → All (λ (p : Pair). fit (p .one) (p .other) ≡ true) (pairsIn ps)
   unfolding pairsIn
   run-fits done = tt
-  run-fits (joined {v = v} {vs = vs} e r) = (find-some (fit v) vs e .1, run-fits r)
+  run-fits (matched {v = v} {vs = vs} e r) = (find-some (fit v) vs e .1, run-fits r)
   run-fits (alone e r) = run-fits r
 
   -- the first of a pair stands before the second: what holds of every vertex and each later one holds of them
   pub run-before : (R : ℕ → ℕ → Type 0) {vs : List ℕ} {ps : List Pass} → Run vs ps → AllPairs R vs → All (λ (p : Pair). R (p .one) (p .other)) (pairsIn ps)
   unfolding pairsIn
   run-before R done s = tt
-  run-before R (joined {v = v} {j = j} {vs = vs} e r) s = (all-mem (R v) (s .0) (find-some (fit v) vs e .0), run-before R r (without-pairwise R j vs (s .1)))
+  run-before R (matched {v = v} {j = j} {vs = vs} e r) s = (all-mem (R v) (s .0) (find-some (fit v) vs e .0), run-before R r (without-pairwise R j vs (s .1)))
   run-before R (alone e r) s = run-before R r (s .1)
 
   -- ---- the greedy rule's passes

@@ -1,6 +1,5 @@
 -- The greedy rule over the first vertices of a list (document 01, "Rival plans and the cut"): its pairs are those of the whole list that lie among these vertices.
 -- A vertex whose partner stands behind the cut is single in the shorter run; nothing else differs.
--- Assumes nothing.
 use Prim.Native.Nat.{ℕ, zero, suc}
 use mathlib.Core.Path.{_≡_, refl, sym, ap, _∙_}
 use mathlib.Core.Logic.{⊎-elim, _≢_}
@@ -10,11 +9,12 @@ use mathlib.Core.List.{List, [], _∷_, _++_, List·Memᴰ as Mem}
 use native.Mathlib.Omega.{arith}
 use lib.ListN.{length, take, drop, take-append-drop, length-append}
 use Rattle.model.specs.Lists.{elem, find, select, All}
-use Rattle.model.specs.Greedy.{without, turns, greedy}
+use Rattle.model.specs.Greedy.{without, greedySteps, greedy}
 use Rattle.model.specs.Rival.{Pair}
-use Rattle.tree_laws.specs.Lists.{Distinct, answers, all-mem, mem-all, pairwise-across, elem-mem, mem-elem}
-use Rattle.matching.specs.Lists.{found-or-none, find-some, find-left, find-right, without-mem, without-none, without-append}
-use Rattle.matching.specs.Passes.{pairsIn, turn-with, turn-alone, turns-greedy}
+use Rattle.laws.specs.Lists.{Distinct, all-mem, mem-all, pairwise-across, elem-mem, mem-elem, found-or-none, find-some, find-left, find-right}
+use Rattle.laws.specs.Booleans.{answers}
+use Rattle.matching.specs.Without.{without-mem, without-none, without-append}
+use Rattle.matching.specs.Passes.{pairsIn, step-with, step-alone, steps-greedy}
 
 -- both vertices of a pair lie inside
 abbrev pub both : (ℕ → Bool) → Pair → Bool
@@ -36,40 +36,40 @@ module _ (fit : ℕ → ℕ → Bool) (inside : ℕ → Bool) where
   outside-without j vs a = mem-all (λ (v : ℕ). inside v ≡ false) (without j vs) (λ v m. all-mem (λ (v : ℕ). inside v ≡ false) a (without-mem j vs m .0))
 
   -- vertices outside make no pair inside
-  turns-outside : (n : ℕ) (vs : List ℕ) → Outside vs → select (both inside) (pairsIn (turns n fit vs)) ≡ []
-  unfolding turns pairsIn select
-  turns-outside zero vs a = refl
-  turns-outside (suc n) [] a = refl
-  turns-outside (suc n) (v ∷ vs) a = ⊎-elim
-      (λ (f : (j : ℕ) × (find (fit v) vs ≡ some j)). rw (turn-with fit n v vs (f .1), a .0) (turns-outside n (without (f .0) vs) (outside-without (f .0) vs (a .1))))
-      (λ (e : find (fit v) vs ≡ none). rw (turn-alone fit n v vs e) (turns-outside n vs (a .1)))
+  steps-outside : (n : ℕ) (vs : List ℕ) → Outside vs → select (both inside) (pairsIn (greedySteps n fit vs)) ≡ []
+  unfolding greedySteps pairsIn select
+  steps-outside zero vs a = refl
+  steps-outside (suc n) [] a = refl
+  steps-outside (suc n) (v ∷ vs) a = ⊎-elim
+      (λ (f : (j : ℕ) × (find (fit v) vs ≡ some j)). rw (step-with fit n v vs (f .1), a .0) (steps-outside n (without (f .0) vs) (outside-without (f .0) vs (a .1))))
+      (λ (e : find (fit v) vs ≡ none). rw (step-alone fit n v vs e) (steps-outside n vs (a .1)))
       (found-or-none (find (fit v) vs))
 
-  -- the same turns with and without the vertices outside
-  turns-prefix : (n : ℕ) (xs ys : List ℕ) → Inside xs → Outside ys → select (both inside) (pairsIn (turns n fit (xs ++ ys))) ≡ pairsIn (turns n fit xs)
-  unfolding turns pairsIn select
-  turns-prefix zero xs ys a b = refl
-  turns-prefix (suc n) [] ys a b = turns-outside (suc n) ys b
-  turns-prefix (suc n) (x ∷ xs) ys a b = ⊎-elim
+  -- the same steps with and without the vertices outside
+  steps-prefix : (n : ℕ) (xs ys : List ℕ) → Inside xs → Outside ys → select (both inside) (pairsIn (greedySteps n fit (xs ++ ys))) ≡ pairsIn (greedySteps n fit xs)
+  unfolding greedySteps pairsIn select
+  steps-prefix zero xs ys a b = refl
+  steps-prefix (suc n) [] ys a b = steps-outside (suc n) ys b
+  steps-prefix (suc n) (x ∷ xs) ys a b = ⊎-elim
       (λ (f : (j : ℕ) × (find (fit x) xs ≡ some j)).
       let j = f .0 in
       let j-inside : inside j ≡ true = all-mem (λ (v : ℕ). inside v ≡ true) (a .1) (find-some (fit x) xs (f .1) .0) in
-      rw (turn-with fit n x xs (f .1), turn-with fit n x (xs ++ ys) (find-left (fit x) xs ys (f .1)), a .0, j-inside, without-append)
-      (ap (λ (l : List Pair). record { one = x; other = j } ∷ l) (turns-prefix n (without j xs) (without j ys) (inside-without j xs (a .1)) (outside-without j ys b))))
+      rw (step-with fit n x xs (f .1), step-with fit n x (xs ++ ys) (find-left (fit x) xs ys (f .1)), a .0, j-inside, without-append)
+      (ap (λ (l : List Pair). record { one = x; other = j } ∷ l) (steps-prefix n (without j xs) (without j ys) (inside-without j xs (a .1)) (outside-without j ys b))))
       (λ (e : find (fit x) xs ≡ none). ⊎-elim
       (λ (f : (j : ℕ) × (find (fit x) ys ≡ some j)).
       let j = f .0 in
       let j-outside : inside j ≡ false = all-mem (λ (v : ℕ). inside v ≡ false) b (find-some (fit x) ys (f .1) .0) in
-      rw (turn-alone fit n x xs e, turn-with fit n x (xs ++ ys) (find-right (fit x) xs ys e ∙ f .1), a .0, j-outside, without-append, without-none j xs (λ y m same. true≢false (sym (all-mem (λ (v : ℕ). inside v ≡ true) (a .1) m) ∙ ap inside same ∙ j-outside)))
-      (turns-prefix n xs (without j ys) (a .1) (outside-without j ys b)))
-      (λ (k : find (fit x) ys ≡ none). rw (turn-alone fit n x xs e, turn-alone fit n x (xs ++ ys) (find-right (fit x) xs ys e ∙ k)) (turns-prefix n xs ys (a .1) b))
+      rw (step-alone fit n x xs e, step-with fit n x (xs ++ ys) (find-right (fit x) xs ys e ∙ f .1), a .0, j-outside, without-append, without-none j xs (λ y m same. true≢false (sym (all-mem (λ (v : ℕ). inside v ≡ true) (a .1) m) ∙ ap inside same ∙ j-outside)))
+      (steps-prefix n xs (without j ys) (a .1) (outside-without j ys b)))
+      (λ (k : find (fit x) ys ≡ none). rw (step-alone fit n x xs e, step-alone fit n x (xs ++ ys) (find-right (fit x) xs ys e ∙ k)) (steps-prefix n xs ys (a .1) b))
       (found-or-none (find (fit x) ys)))
       (found-or-none (find (fit x) xs))
 
   -- the pairs inside, where the vertices inside come first, are the pairs of these vertices alone
   pub greedy-inside : (xs ys : List ℕ) → Inside xs → Outside ys → select (both inside) (pairsIn (greedy fit (xs ++ ys))) ≡ pairsIn (greedy fit xs)
   unfolding greedy
-  greedy-inside xs ys a b = turns-prefix (length (xs ++ ys)) xs ys a b ∙ ap pairsIn (turns-greedy fit (length (xs ++ ys)) xs (simp length-append (omega arith)))
+  greedy-inside xs ys a b = steps-prefix (length (xs ++ ys)) xs ys a b ∙ ap pairsIn (steps-greedy fit (length (xs ++ ys)) xs (simp length-append (omega arith)))
 
 -- the pairs among the first m vertices are the pairs of the first m vertices
 pub greedy-prefix : (fit : ℕ → ℕ → Bool) (m : ℕ) (vs : List ℕ) → Distinct vs → select (both (λ (v : ℕ). elem v (take m vs))) (pairsIn (greedy fit vs)) ≡ pairsIn (greedy fit (take m vs))

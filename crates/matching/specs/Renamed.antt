@@ -11,9 +11,10 @@ use native.Mathlib.Omega.{arith}
 use Rattle.model.specs.Lists.{find, select, total, All, AllPairs}
 use Rattle.model.specs.Greedy.{Pass, pair, single, without, greedy}
 use Rattle.model.specs.Planning.{pairCount}
-use Rattle.tree_laws.specs.Lists.{answers}
-use Rattle.matching.specs.Lists.{find-some, without-mem, without-pairwise, without-drop, without-keep}
-use Rattle.matching.specs.Passes.{greedy-done, greedy-with, greedy-alone, Run, done, joined, alone, greedy-run}
+use Rattle.laws.specs.Booleans.{answers}
+use Rattle.laws.specs.Lists.{find-some}
+use Rattle.matching.specs.Without.{without-mem, without-pairwise, without-drop, without-keep}
+use Rattle.matching.specs.Passes.{greedy-done, greedy-with, greedy-alone, Run, done, matched, alone, greedy-run}
 
 -- a pass by the names of its vertices
 unfoldable pub renamed : (ℕ → ℕ) → Pass → Pass
@@ -54,7 +55,7 @@ module _ (f : ℕ → ℕ) where
     run-renamed : {vs : List ℕ} {ps : List Pass} → Run r vs ps → NamesApart f vs → AllPairs Agrees vs → map (renamed f) ps ≡ greedy r′ (map f vs)
     unfolding renamed name
     run-renamed done apart a = sym (greedy-done r′)
-    run-renamed (joined {v = v} {j = j} {vs = vs} {ps = ps} e run) apart a =
+    run-renamed (matched {v = v} {j = j} {vs = vs} {ps = ps} e run) apart a =
         let found : find (r′ (f v)) (map f vs) ≡ some (f j) = find-renamed (r v) (r′ (f v)) vs (a .0) ∙ ap name e in
         let inside : Mem j vs = find-some (r v) vs e .0 in
         let rest : map (renamed f) ps ≡ greedy r′ (map f (without j vs)) = run-renamed run (λ x y m n. apart x y (there (without-mem j vs m .0)) (there (without-mem j vs n .0))) (without-pairwise Agrees j vs (a .1)) in
@@ -82,7 +83,7 @@ module _ (f : ℕ → ℕ) where
     run-total : {vs : List ℕ} {ps : List Pass} → Run r vs ps → ((x : ℕ) → Mem x vs → g (single x) ≡ h (single (f x))) → total g ps ≡ total h (map (renamed f) ps)
     unfolding total renamed
     run-total done e = refl
-    run-total (joined {v = v} {j = j} {vs = vs} {ps = ps} s run) e =
+    run-total (matched {v = v} {j = j} {vs = vs} {ps = ps} s run) e =
         omega (arith, same-pair v j, same-pair′ (f v) (f j), e v (here refl), run-total run (λ x m. e x (there (without-mem j vs m .0))))
     run-total (alone {v = v} {vs = vs} {ps = ps} s run) e = omega (arith, e v (here refl), run-total run (λ x m. e x (there m)))
 

@@ -1,6 +1,5 @@
 -- The jobs in no pair of a rival plan, and its passes (document 01, "Rival plans and the cut"). Each pair takes two jobs that no other pair has, so the singles are what is
 -- left of M after two for each pair.
--- Assumes nothing.
 use Prim.Native.Nat.{ℕ, suc, _+_, _*_, _≤_, _<_}
 use mathlib.Core.Path.{_≡_, refl, sym, ap, _∙_}
 use mathlib.Core.Logic.{_≢_}
@@ -14,9 +13,9 @@ use Rattle.model.specs.Lists.{numbers, countWhere, anyOf, All, AllPairs}
 use Rattle.model.specs.Jobs.{Table, jobs, jobLimit}
 use Rattle.model.specs.Rival.{Pair, Disjoint, Rules, Rival, pairsOf, inPair, singlesOf, passesOf}
 use Rattle.model.specs.Planning.{partners, pairs, singles}
-use Rattle.tree_laws.specs.Numbers.{mem-numbers, numbers-distinct, numbers-length}
-use Rattle.matching.specs.Lists.{all-imply}
-use Rattle.matching.specs.Counting.{count-at, count-length-all}
+use Rattle.laws.specs.Numbers.{mem-numbers, numbers-distinct, numbers-length}
+use Rattle.laws.specs.Lists.{all-imply}
+use Rattle.laws.specs.Counting.{count-at, count-length-all}
 use Rattle.matching.specs.Partners.{jobs-counted, our-pairs, our-pairs-length}
 
 -- the job is neither of the pair

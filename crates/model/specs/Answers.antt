@@ -1,5 +1,4 @@
 -- Document 01's number and values for each case of an enum that an operation answers.
--- Assumes nothing.
 use Prim.Native.Nat.{ℕ}
 use mathlib.Core.Option.{Option, none, some}
 use mathlib.Core.List.{[], _∷_}

@@ -1,5 +1,4 @@
 -- The matching rule (000, Algorithm 1): each vertex still free at its turn takes the first free later vertex that it is compatible with.
--- Assumes nothing.
 use Prim.Native.Nat.{ℕ, zero, suc}
 use mathlib.Core.Bool.{Bool, not, _&&_}
 use mathlib.Core.Option.{Option, none, some}
@@ -19,20 +18,20 @@ pub data Pass : Type 0 where
 unfoldable pub without : ℕ → List ℕ → List ℕ
 without j vs = select (λ (v : ℕ). not (eqb v j)) vs
 
--- v's turn: with j, where one was found among vs, else alone; and then what `rest` makes of the others
-unfoldable pub turn : (List ℕ → List Pass) → ℕ → List ℕ → Option ℕ → List Pass
-turn rest v vs none = single v ∷ rest vs
-turn rest v vs (some j) = pair v j ∷ rest (without j vs)
+-- one step of the greedy rule: v with j, where one was found among vs, else alone; and then what `rest` makes of the others
+unfoldable pub greedyStep : (List ℕ → List Pass) → ℕ → List ℕ → Option ℕ → List Pass
+greedyStep rest v vs none = single v ∷ rest vs
+greedyStep rest v vs (some j) = pair v j ∷ rest (without j vs)
 
--- at most n turns
-unfoldable pub turns : ℕ → (ℕ → ℕ → Bool) → List ℕ → List Pass
-turns zero compatible vs = []
-turns (suc n) compatible [] = []
-turns (suc n) compatible (v ∷ vs) = turn (turns n compatible) v vs (find (compatible v) vs)
+-- at most n steps
+unfoldable pub greedySteps : ℕ → (ℕ → ℕ → Bool) → List ℕ → List Pass
+greedySteps zero compatible vs = []
+greedySteps (suc n) compatible [] = []
+greedySteps (suc n) compatible (v ∷ vs) = greedyStep (greedySteps n compatible) v vs (find (compatible v) vs)
 
 -- the passes that the greedy rule makes of vertices in order
 unfoldable pub greedy : (ℕ → ℕ → Bool) → List ℕ → List Pass
-greedy compatible vs = turns (length vs) compatible vs
+greedy compatible vs = greedySteps (length vs) compatible vs
 
 module _ (tb : Table) where
   -- neither is solo, and they share

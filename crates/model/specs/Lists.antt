@@ -1,5 +1,4 @@
 -- Plain functions on lists of numbers that the other definitions are written in. Nothing here is of document 01.
--- Assumes nothing.
 use Prim.Native.Nat.{ℕ, zero, suc, _+_}
 use mathlib.Core.Bool.{Bool, true, false, cond, _&&_, _||_}
 use mathlib.Core.Option.{Option, none, some}

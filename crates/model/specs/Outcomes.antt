@@ -1,5 +1,4 @@
 -- The full outcome of each public operation: the answer, and each lent buffer as the call leaves it (marked ′).
--- Assumes nothing.
 use Prim.Native.Nat.{ℕ}
 use mathlib.Core.Path.{_≡_}
 use mathlib.Core.List.{List, [], _∷_, _++_}

@@ -1,5 +1,4 @@
 -- The plan's lines and the whole run (document 01, "The plan", and *Whole run* of "What each operation turns away").
--- Assumes nothing.
 use Prim.Native.Nat.{ℕ, zero, suc, _+_, _/_, _%_}
 use mathlib.Core.Bool.{cond}
 use mathlib.Core.List.{List, [], _∷_, _++_, flatMap}

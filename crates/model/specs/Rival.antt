@@ -1,6 +1,5 @@
 -- Rival plans and the cut (document 01). A plan is here a set of pairs of job numbers: a matching of the jobs in the graph of who shares with whom. A rival
 -- plan is any matching, a cut the end of a prefix of the running order.
--- Assumes nothing.
 use Prim.Native.Nat.{ℕ, _+_, _*_, _<_, _≤_}
 use mathlib.Core.Path.{_≡_}
 use mathlib.Core.Logic.{_≢_}
@@ -34,7 +33,7 @@ pub record Rules (tb : Table) (p : Pair) : Type 0 where
   pub other-not-solo : T (not (solo tb (p .other)))
   pub share : T (shares tb (p .one) (p .other))
 
--- a rival plan: pairs that keep the rules, no job in two of them
+-- a rival plan, which is any matching: pairs that keep the rules, no job in two of them
 pub record Rival (tb : Table) (ps : List Pair) : Type 0 where
   pub keep : All (Rules tb) ps
   pub once : AllPairs Disjoint ps
@@ -43,7 +42,7 @@ pub record Rival (tb : Table) (ps : List Pair) : Type 0 where
 unfoldable pub inFront : Table → ℕ → Pair → Bool
 inFront tb m p = ltb (place tb (p .one)) m && ltb (place tb (p .other)) m
 
--- how many of the pairs lie in front of cut m
+-- how many of the pairs lie in front of cut m, which is among the first m jobs of the running order (a prefix)
 unfoldable pub pairsInFront : Table → ℕ → List Pair → ℕ
 pairsInFront tb m ps = countWhere (inFront tb m) ps
 

@@ -1,5 +1,5 @@
 -- The shared stretch of two lists of layout numbers (document 01, "Shared stretch"): which list it begins, how long it is, and what the
--- answer, a lent part of that list, has to be. Assumes nothing.
+-- answer, a lent part of that list, has to be.
 use Prim.Native.Nat.{ℕ, suc}
 use mathlib.Core.Path.{_≡_}
 use mathlib.Core.List.{List, [], _∷_}
@@ -30,7 +30,7 @@ pub data Stretch : Type 0 where
   ofFirst : ℕ → Stretch
   ofSecond : ℕ → Stretch
 
--- the shared stretch of xs and ys
+-- the shared stretch of xs and ys: of two paths written from top to bottom, their common subpath
 unfoldable pub stretchOf : List ℕ → List ℕ → Stretch
 stretchOf xs ys = cond (startsIn xs ys) (ofFirst (leading xs ys)) (cond (startsIn ys xs) (ofSecond (leading ys xs)) (ofFirst 0))
 
@@ -48,7 +48,7 @@ begun (ofSecond n) first second = second
 abbrev pub numbersOf : Stretch → List ℕ → List ℕ → List ℕ
 numbersOf s xs ys = take (lengthOf s) (begun s xs ys)
 
--- the answer holds the shared stretch of the two lists, and is borrowed from the start of the list that it begins
-pub record StretchOutcome (first second answer : RefT (List ℕ)) : Type 0 where
-  pub numbers : now answer ≡ numbersOf (stretchOf (now first) (now second)) (now first) (now second)
-  pub borrowed : ptr answer ≡ begun (stretchOf (now first) (now second)) (ptr first) (ptr second)
+-- what is given back holds the shared stretch of the two lists, and is borrowed from the start of the list that it begins
+pub record StretchOutcome (first second given : RefT (List ℕ)) : Type 0 where
+  pub holds : now given ≡ numbersOf (stretchOf (now first) (now second)) (now first) (now second)
+  pub borrowed : ptr given ≡ begun (stretchOf (now first) (now second)) (ptr first) (ptr second)

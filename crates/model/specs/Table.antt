@@ -1,5 +1,4 @@
 -- The table's meaning, line by line (document 01, "The table", and *Read a table* of "What each operation turns away").
--- Assumes nothing.
 use Prim.Native.Nat.{ℕ, suc, _+_, _-_, _*_}
 use mathlib.Core.Bool.{Bool, true, false, cond, not, _||_, _&&_}
 use mathlib.Core.Option.{Option, none, some}
@@ -8,7 +7,7 @@ use lib.ListN.{length, take, drop}
 use lib.Dec.{eqb, ltb, leb}
 use Rattle.model.specs.Lists.{allOf}
 use Rattle.model.specs.Verdict.{Verdict, accepted, refused, refuseIf, _then_, Answer, gives, refuses, lent, padded}
-use Rattle.model.specs.Tree.{FFFF, layoutLimit, rightParent}
+use Rattle.model.specs.Tree.{layoutLimit, rightParent}
 use Rattle.model.specs.Jobs.{Table, jobs, jobLimit, jobVerdict}
 
 -- ---- digits and numbers

@@ -1,5 +1,4 @@
 -- The tree of layouts (document 01, "The tree and the running order"; 000, section 2): a list ps of parents, layout 0 the root.
--- Assumes nothing.
 use Prim.Native.Nat.{ℕ, zero, suc, pred}
 use mathlib.Core.Bool.{Bool, not, _||_}
 use mathlib.Core.List.{List, [], _∷_, _++_, map, headD, flatMap}
@@ -31,17 +30,17 @@ unfoldable pub treeVerdict : List ℕ → Verdict
 treeVerdict [] = refused 4 0
 treeVerdict (p ∷ ps) = layoutsFrom 0 (p ∷ ps)
 
--- x and, in n steps up, the layouts above it
+-- x and, in n steps up, its ancestors
 unfoldable pub ascend : ℕ → List ℕ → ℕ → List ℕ
 ascend zero ps x = x ∷ []
 ascend (suc n) ps zero = zero ∷ []
 ascend (suc n) ps (suc x) = suc x ∷ ascend n ps (getD ps (suc x) 0)
 
--- x and the layouts above it, deepest first. A parent has a smaller number, so x steps reach layout 0
+-- x and its ancestors, deepest first. A parent has a smaller number, so x steps reach layout 0
 unfoldable pub ancestors : List ℕ → ℕ → List ℕ
 ancestors ps x = ascend x ps x
 
--- u is x or lies above it
+-- u is x or an ancestor of it
 unfoldable pub ancestorOrSelf : List ℕ → ℕ → ℕ → Bool
 ancestorOrSelf ps u x = elem u (ancestors ps x)
 
@@ -74,7 +73,7 @@ firstLeaf ps x = indexOf (headD (leaves ps x) x) (leaves ps 0)
 unfoldable pub lastLeaf : List ℕ → ℕ → ℕ
 lastLeaf ps x = indexOf (lastD (leaves ps x) x) (leaves ps 0)
 
--- ---- what *Settle layouts* does with the buffers
+-- ---- what *Settle layouts* does with the buffers: to settle a layout is to give its depth and its leaf span
 
 -- 8, a result shorter than parents; 3, over 1,024; 4, a wrong layout. The results' lengths are given
 unfoldable pub settleVerdict : List ℕ → ℕ → ℕ → ℕ → Verdict

@@ -1,5 +1,4 @@
 -- Refusals and answers (document 01, "What each operation turns away"): a number and a place, the first ground that applies.
--- Assumes nothing.
 use Prim.Native.Nat.{ℕ, _-_}
 use mathlib.Core.Bool.{Bool, cond}
 use mathlib.Core.List.{List, _++_}

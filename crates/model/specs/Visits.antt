@@ -1,5 +1,5 @@
--- The visits of a lookup (document 01, "The shelf and its cells"). The shelf is a segment tree, a cell one of its nodes.
--- Assumes nothing.
+-- The visits of a lookup (document 01, "The shelf and its cells"). The shelf is a segment tree over the slots, a cell one of its nodes, a lookup a query for the
+-- smallest place in a span of slots (range minimum).
 use Prim.Native.Nat.{ℕ, zero, suc, _+_, _^_}
 use mathlib.Core.Bool.{Bool, cond, _||_, _&&_}
 use mathlib.Core.List.{List, headD}
@@ -20,19 +20,19 @@ levelsFrom (suc n) k m = cond (leb m (2 ^ k)) k (levelsFrom n (suc k) m)
 unfoldable pub levels : ℕ → ℕ
 levels m = levelsFrom m 0 m
 
--- the cell of 2 ^ k slots from `from` on lies wholly inside the slots from `lo` up to `hi`, or wholly outside them
+-- the cell of 2 ^ k slots from `start` on lies wholly inside the slots from `from` up to `to`, or wholly outside them
 abbrev pub insideOrOutside : ℕ → ℕ → ℕ → ℕ → Bool
-insideOrOutside k from lo hi = leb lo from && leb (from + 2 ^ k) hi || (leb hi from || leb (from + 2 ^ k) lo)
+insideOrOutside k start from to = leb from start && leb (start + 2 ^ k) to || (leb to start || leb (start + 2 ^ k) from)
 
 -- the visits at and under that cell: one wholly inside or wholly outside ends there, otherwise both halves are visited
 unfoldable pub cellVisits : ℕ → ℕ → ℕ → ℕ → ℕ
-cellVisits zero from lo hi = 1
-cellVisits (suc k) from lo hi =
-    cond (insideOrOutside (suc k) from lo hi) 1 (1 + (cellVisits k from lo hi + cellVisits k (from + 2 ^ k) lo hi))
+cellVisits zero start from to = 1
+cellVisits (suc k) start from to =
+    cond (insideOrOutside (suc k) start from to) 1 (1 + (cellVisits k start from to + cellVisits k (start + 2 ^ k) from to))
 
--- the visits of a lookup, of 2 ^ k slots, for those from `lo` up to `hi`. An empty span ends at the topmost cell
+-- the visits of a lookup, of 2 ^ k slots, for those from `from` up to `to`. An empty span ends at the topmost cell
 unfoldable pub visits : ℕ → ℕ → ℕ → ℕ
-visits k lo hi = cond (leb hi lo) 1 (cellVisits k 0 lo hi)
+visits k from to = cond (leb to from) 1 (cellVisits k 0 from to)
 
 module _ (tb : Table) where
   -- the lookup of job i asks for slot s: the bottom of the slot's job has its first leaf in the leaf span of the top of i

@@ -1,16 +1,16 @@
 -- The plan of an accepted table, made in the work cells: its schedule is prepared and swept.
 use Prim.Native.Nat.{ℕ, _+_, _-_, _*_, _^_, _≤_}
-use mathlib.Core.Path.{_≡_, refl, _∙_}
+use mathlib.Core.Path.{_≡_, _∙_}
 use mathlib.Core.List.{List}
 use native.Mathlib.Omega.{arith}
 use lib.ListN.{length}
 use Rattle.model.specs.Jobs.{Table, jobs}
 use Rattle.model.specs.Visits.{levels}
-use Rattle.model.specs.Planning as Planning
 use Rattle.model.specs.declared.Totals.{Totals}
-use Rattle.matching.specs.Partners.{jobs-counted, passes-length}
+use Rattle.model.specs.Planning as Planning
 use Rattle.settle.specs.Spanned.{Spanned}
 use Rattle.jobs.specs.Accepted.{Accepted}
+use Rattle.matching.specs.Partners.{jobs-counted, passes-length}
 use Rattle.schedule.specs.InWork.{treePart, Swept}
 use Rattle.schedule.specs.OfTable.{Prepared}
 use Rattle.schedule_laws.specs.Theorem.{schedule-sound}

@@ -2,35 +2,35 @@
 use Prim.Native.Nat.{ℕ, zero, suc, _+_, _*_, _≤_, _<_}
 use mathlib.Core.Path.{_≡_, refl, sym, ap, _∙_}
 use mathlib.Core.Logic.{_≢_, ⊎-elim}
-use mathlib.Core.Bool.{true, false, cond}
+use mathlib.Core.Bool.{true}
 use mathlib.Core.List.{List, [], _∷_, map, List·Memᴰ as Mem, List·Memᴰ·head as here, List·Memᴰ·tail as there}
 use native.Mathlib.Omega.{arith}
-use lib.ListN.{length, getD, take, length-map}
+use lib.ListN.{length, getD, take}
 use lib.Seq.{getD-take}
 use lib.Dec.{eqb}
 use borrow.Author.Tests.{eq-eqb, ne-eqb, eqb-true, eqb-false}
-use Rattle.model.specs.Lists.{numbers, All}
+use Rattle.model.specs.Lists.{numbers}
 use Rattle.model.specs.Tree.{FFFF}
-use Rattle.model.specs.Jobs.{Table, jobs, jobLimit, bottom, shares, deepestShared}
+use Rattle.model.specs.Jobs.{Table, jobs, deepestShared}
 use Rattle.model.specs.Order.{runningOrder}
 use Rattle.model.specs.Greedy.{Pass, pair, single, compatible, passes}
 use Rattle.model.specs.Planning.{pairs}
 use Rattle.model.specs.Visits.{cellCount}
 use Rattle.model.specs.Rival.{Pair}
-use Rattle.tree_laws.specs.Lists.{answers, all-mem, getD-mem}
-use Rattle.tree_laws.specs.Numbers.{numbers-mem, numbers-length, numbers-at}
+use Rattle.laws.specs.Booleans.{answers}
+use Rattle.laws.specs.Lists.{all-mem}
+use Rattle.laws.specs.Numbers.{numbers-mem, numbers-at}
+use Rattle.jobs.specs.Accepted.{Accepted}
+use Rattle.ancestry.specs.Ancestry.{common-shared}
 use Rattle.matching.specs.Renamed.{renamed}
-use Rattle.matching.specs.Lists.{all-member}
 use Rattle.matching.specs.Passes.{pairsIn, vertices, mem-greedy}
-use Rattle.matching.specs.Partners.{passes-known, passes-compatible, passes-length, jobs-counted}
+use Rattle.matching.specs.Partners.{passes-compatible, passes-length, jobs-counted}
 use Rattle.matching.specs.Compatible.{compatible-true}
 use Rattle.schedule.specs.Schedule.{fits, passesByPlace}
-use Rattle.schedule.specs.InWork.{passOf, passAt, scheduleIn, Swept}
+use Rattle.schedule.specs.InWork.{passOf, passAt, Swept}
 use Rattle.schedule.specs.OfTable.{jobAt, scheduleOf, Prepared}
 use Rattle.schedule_laws.specs.Places.{job-known}
 use Rattle.schedule_laws.specs.Theorem.{places-are, schedule-passes, schedule-length, schedule-pairs, schedule-visits}
-use Rattle.jobs.specs.Accepted.{Accepted}
-use Rattle.ancestry.specs.Ancestry.{LowestCommonAncestor, common-shared}
 use Rattle.passes.specs.Read.{openerIn, mateIn, jobIn, PassCells, PairRead, SingleRead, PassRead}
 use Rattle.passes.specs.declared.Pass as declared
 use Rattle.passes.specs.declared.Pass.the-variants as pass
@@ -175,7 +175,7 @@ module _ (tb : Table) (a : Accepted tb) where
         let first : jobIn work opener ≡ jobAt tb opener = job-is opener (known .0) in
         let second : jobIn work mate ≡ jobAt tb mate = job-is mate (known .1) in
         let is : planPass tb k ≡ pair (jobAt tb opener) (jobAt tb mate) = by-job ∙ ap (renamed (jobAt tb)) (paired e) in
-        let fit = all-member (λ (p : Pair). compatible tb (p .one) (p .other) ≡ true) (passes-compatible tb) ((rw is at (pass-among (passes tb) k (single 0) h)) .2) in
+        let fit = all-mem (λ (p : Pair). compatible tb (p .one) (p .other) ≡ true) (passes-compatible tb) ((rw is at (pass-among (passes tb) k (single 0) h)) .2) in
         rw is
         (o .0 ∙ first, o .1 ∙ second, common-shared tb a (jobAt tb opener) (jobAt tb mate) (job-known tb opener (known .0)) (job-known tb mate (known .1)) (compatible-true tb (jobAt tb opener) (jobAt tb mate) fit .2) (layout .0) (rw (first, second) at (o .2)))
 

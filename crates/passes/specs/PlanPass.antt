@@ -8,20 +8,19 @@ use native.Mathlib.Omega.{arith}
 use lib.ListN.{length, getD}
 use borrow.Author.Tests.{ne-eqb}
 use Rattle.model.specs.Tree.{FFFF}
-use Rattle.model.specs.Jobs.{Table, jobs, jobLimit, deepestShared}
+use Rattle.model.specs.Jobs.{Table, jobs, deepestShared}
 use Rattle.model.specs.Greedy.{Pass, pair, single, compatible, passes}
 use Rattle.model.specs.Visits.{cellCount}
 use Rattle.model.specs.Planning.{partnerIn, printed, pairs, singles}
 use Rattle.model.specs.declared.Totals.{Totals}
 use Rattle.model.specs.Rival.{Pair}
-use Rattle.tree_laws.specs.Lists.{Distinct, all-mem}
-use Rattle.matching.specs.Lists.{all-member}
-use Rattle.matching.specs.Compatible.{compatible-true}
-use Rattle.matching.specs.Passes.{pairsIn, vertices}
-use Rattle.matching.specs.Partners.{pair-partners, partner-none, passes-distinct, passes-known, passes-compatible}
+use Rattle.laws.specs.Lists.{Distinct, all-mem}
 use Rattle.settle.specs.Spanned.{Spanned}
 use Rattle.jobs.specs.Accepted.{Accepted}
 use Rattle.ancestry.specs.Ancestry.{shared-symmetric}
+use Rattle.matching.specs.Compatible.{compatible-true}
+use Rattle.matching.specs.Passes.{pairsIn, vertices}
+use Rattle.matching.specs.Partners.{pair-partners, partner-none, passes-distinct, passes-known, passes-compatible}
 use Rattle.passes.specs.Read.{PassCells, PassRead}
 use Rattle.passes.specs.OfTable.{PlanIn, PassIs, planPass, pass-among, pass-cells, pass-read}
 use Rattle.passes.specs.declared.Pass as declared
@@ -68,7 +67,7 @@ module _ (tb : Table) (a : Accepted tb) where
     pub other-printed : printed tb j ≡ deepestShared tb i j
     unfolding printed
     other-printed =
-        let fit = all-member (λ (p : Pair). compatible tb (p .one) (p .other) ≡ true) (passes-compatible tb) (among .2) in
+        let fit = all-mem (λ (p : Pair). compatible tb (p .one) (p .other) ≡ true) (passes-compatible tb) (among .2) in
         rw (other-partner, ne-eqb i FFFF (some-partner i one-known))
         (sym (shared-symmetric tb a i j one-known other-known (compatible-true tb i j fit .2)))
 

@@ -1,13 +1,13 @@
 -- A pass read off the work cells: what has to stand there, and what is read.
 use Prim.Native.Nat.{ℕ, _+_, _*_, _<_}
-use mathlib.Core.Path.{_≡_, refl}
+use mathlib.Core.Path.{_≡_}
 use mathlib.Core.Logic.{_≢_}
 use mathlib.Core.List.{List}
 use lib.ListN.{length, getD}
 use Rattle.model.specs.Tree.{FFFF}
-use Rattle.model.specs.Greedy.{Pass, pair, single}
-use Rattle.schedule.specs.InWork.{matePart, openerPart}
+use Rattle.model.specs.Greedy.{Pass}
 use Rattle.ancestry.specs.Ancestry.{LowestCommonAncestor}
+use Rattle.schedule.specs.InWork.{matePart, openerPart}
 use Rattle.passes.specs.declared.Pass as declared
 use Rattle.passes.specs.declared.Pass.the-variants as pass
 

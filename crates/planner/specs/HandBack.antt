@@ -1,25 +1,25 @@
 -- The plan handed back by job number, pass by pass: at its own number each job finds its partner and the layout that it prints on.
-use Prim.Native.Nat.{ℕ, zero, suc, _+_, _≤_, _<_}
+use Prim.Native.Nat.{ℕ, suc, _+_, _≤_, _<_}
 use mathlib.Core.Path.{_≡_, refl, sym, ap, _∙_}
 use mathlib.Core.Logic.{_⊎_, inl, inr, ⊎-elim, _≢_}
 use mathlib.Core.Bool.{true, false}
-use mathlib.Core.List.{List, [], _∷_, _++_, map, List·Memᴰ as Mem, List·Memᴰ·head as here, List·Memᴰ·tail as there, List·Memᴰ·not-nil}
+use mathlib.Core.List.{List, [], _∷_, _++_, map, List·Memᴰ as Mem, List·Memᴰ·head as here, List·Memᴰ·tail as there, List·Memᴰ·not-nil, List·Memᴰ·append-cases as mem-append}
 use native.Mathlib.Numerals.{add-one}
 use native.Mathlib.Omega.{arith}
 use lib.ListN.{length, getD, set, take, length-set, length-map}
 use lib.Seq.{getD-set-same, getD-set-other, take-suc, take-all, ext-getD}
 use lib.Dec.{eqb}
-use borrow.Author.Tests.{ne-eqb, eqb-true, eqb-false}
-use Rattle.model.specs.Lists.{numbers, All}
+use borrow.Author.Tests.{eqb-true, eqb-false}
+use Rattle.model.specs.Lists.{numbers}
 use Rattle.model.specs.Tree.{FFFF}
-use Rattle.model.specs.Jobs.{Table, jobs, jobLimit, deepestShared}
+use Rattle.model.specs.Jobs.{Table, jobs, deepestShared}
 use Rattle.model.specs.Greedy.{Pass, pair, single, passes}
 use Rattle.model.specs.Planning.{partnerIn, partners, printed, printedLayouts}
-use Rattle.tree_laws.specs.Lists.{answers}
-use Rattle.tree_laws.specs.Numbers.{numbers-length, numbers-at}
+use Rattle.laws.specs.Booleans.{answers}
+use Rattle.laws.specs.Numbers.{numbers-length, numbers-at}
+use Rattle.jobs.specs.Accepted.{Accepted}
 use Rattle.matching.specs.Passes.{vertices}
 use Rattle.matching.specs.Partners.{passes-all}
-use Rattle.jobs.specs.Accepted.{Accepted}
 use Rattle.passes.specs.Read.{PassRead}
 use Rattle.passes.specs.OfTable.{PassIs, planPass}
 use Rattle.passes.specs.PlanPass.{one-known, other-known, one-partner, other-partner, one-printed, other-printed, single-known, single-partner, single-printed, Plan, jobs-are, within, plan-read}
@@ -56,11 +56,6 @@ vertices-append [] ys = refl
 vertices-append (pair i j ∷ xs) ys = ap (λ (l : List ℕ). i ∷ j ∷ l) (vertices-append xs ys)
 vertices-append (single i ∷ xs) ys = ap (λ (l : List ℕ). i ∷ l) (vertices-append xs ys)
 
-mem-parts : {x : ℕ} (xs ys : List ℕ) → Mem x (xs ++ ys) → Mem x xs ⊎ Mem x ys
-mem-parts [] ys m = inr m
-mem-parts (y ∷ xs) ys (here e) = inl (here e)
-mem-parts (y ∷ xs) ys (there m) = ⊎-elim (λ n. inl (there n)) (λ n. inr n) (mem-parts xs ys m)
-
 -- ---- one pass more
 
 module _ (tb : Table) (a : Accepted tb) where
@@ -81,7 +76,7 @@ module _ (tb : Table) (a : Accepted tb) where
       getD-set-other (set cells i x) j z y 0 other
       ∙ ⊎-elim
       (λ (q : eqb z i ≡ true). let same = eqb-true z i q in rw same (getD-set-same cells i x 0 hi ∙ ex))
-      (λ (q : eqb z i ≡ false). let apart = eqb-false z i q in getD-set-other cells i z x 0 apart ∙ right z (earlier apart other (mem-parts l (i ∷ j ∷ []) m)))
+      (λ (q : eqb z i ≡ false). let apart = eqb-false z i q in getD-set-other cells i z x 0 apart ∙ right z (earlier apart other (mem-append l m)))
       (answers (eqb z i)))
       (answers (eqb z j))
     where
@@ -94,7 +89,7 @@ module _ (tb : Table) (a : Accepted tb) where
       → (z : ℕ) → Mem z (l ++ i ∷ []) → getD (set cells i x) z 0 ≡ f z
   one-written f cells i x l hi ex right z m = ⊎-elim
       (λ (q : eqb z i ≡ true). let same = eqb-true z i q in rw same (getD-set-same cells i x 0 hi ∙ ex))
-      (λ (q : eqb z i ≡ false). let apart = eqb-false z i q in getD-set-other cells i z x 0 apart ∙ right z (⊎-elim (λ n. n) (λ n. absurd (only apart n)) (mem-parts l (i ∷ []) m)))
+      (λ (q : eqb z i ≡ false). let apart = eqb-false z i q in getD-set-other cells i z x 0 apart ∙ right z (⊎-elim (λ n. n) (λ n. absurd (only apart n)) (mem-append l m)))
       (answers (eqb z i))
     where
       only : z ≢ i → Mem z (i ∷ []) → ⊥

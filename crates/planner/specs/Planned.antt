@@ -6,22 +6,22 @@ use native.Mathlib.Omega.{arith}
 use lib.ListN.{length, take, drop, replicate}
 use lib.Seq.{length-take-le}
 use Rattle.model.specs.Verdict.{Verdict, accepted, refused, refuses}
-use Rattle.model.specs.Jobs.{Table, tableOf, jobs, jobLimit}
+use Rattle.model.specs.Jobs.{Table, tableOf, jobLimit}
 use Rattle.model.specs.Visits.{cellCount}
-use Rattle.model.specs.Planning as Planning
 use Rattle.model.specs.Planning.{workCells, jobsVerdict}
 use Rattle.model.specs.Answers.{plannedAnswer}
 use Rattle.model.specs.Outcomes.{PlannedAs}
 use Rattle.model.specs.declared.Planned.{Planned}
-use Rattle.model.specs.declared.Planned.the-variants as planned
 use Rattle.model.specs.declared.Refusal.{Refusal}
 use Rattle.model.specs.declared.Totals.{Totals}
-use Rattle.matching.specs.MaximumAtEveryCut.{our-plan-maximum}
+use Rattle.model.specs.Planning as Planning
+use Rattle.model.specs.declared.Planned.the-variants as planned
 use Rattle.settle.specs.Spanned.{Spanned}
 use Rattle.jobs.specs.Accepted.{Accepted, Lent, table-accepted}
 use Rattle.jobs.specs.Checks.{checkVerdict}
 use Rattle.jobs.specs.declared.JobCheck.{JobCheck}
 use Rattle.jobs.specs.declared.JobCheck.the-variants as check
+use Rattle.matching.specs.MaximumAtEveryCut.{our-plan-maximum}
 use Rattle.sweep_laws.specs.Room.{sweep-room}
 use Rattle.passes.specs.Making.{Roomy, Made}
 use Rattle.planner.specs.HandBack.{Returned}

@@ -1,25 +1,26 @@
 -- The lines of a plan, appended pass by pass.
 use Prim.Native.Nat.{ℕ, zero, suc, _+_, _-_, _*_, _≤_, _<_}
 use mathlib.Core.Path.{_≡_, refl, sym, ap, _∙_}
-use mathlib.Core.List.{List, [], _∷_, _++_, flatMap, append-assoc, append-nil}
+use mathlib.Core.List.{List, [], _∷_, _++_, flatMap}
 use native.Mathlib.Numerals.{add-one}
 use native.Mathlib.Omega.{arith}
 use lib.ListN.{length, take, replicate}
 use lib.Seq.{take-suc, take-all}
 use Rattle.model.specs.Lists.{total}
-use Rattle.model.specs.Jobs.{Table, jobs, jobLimit, deepestShared}
+use Rattle.model.specs.Jobs.{Table}
 use Rattle.model.specs.Greedy.{Pass, pair, single, passes}
-use Rattle.model.specs.Planning.{pairCount, singleCount, printed, pairs, singles}
+use Rattle.model.specs.Planning.{pairCount, singleCount, pairs, singles}
 use Rattle.model.specs.Output.{pairLine, singleLine, totalsLine, passLine, planBytes, outputBytes}
 use Rattle.model.specs.declared.Totals.{Totals}
-use Rattle.matching.specs.Partners.{jobs-counted}
+use Rattle.laws.specs.Lists.{total-more, flat-more}
 use Rattle.jobs.specs.Accepted.{Accepted}
-use Rattle.lines.specs.Writing.{Appended, Printed, printed-all}
+use Rattle.matching.specs.Partners.{jobs-counted}
 use Rattle.passes.specs.Read.{PassRead}
 use Rattle.passes.specs.OfTable.{PassIs, planPass}
 use Rattle.passes.specs.PlanPass.{one-printed, Plan, within, plan-read, TotalsOf}
 use Rattle.passes.specs.declared.Pass as declared
 use Rattle.passes.specs.declared.Pass.the-variants as pass
+use Rattle.lines.specs.Writing.{Appended, Printed, printed-all}
 
 -- how long the line of a pass is, and the line
 abbrev pub lineLength : declared.Pass → ℕ
@@ -41,21 +42,11 @@ pub record PassesAppended (tb : Table) (k : ℕ) (out : List ℕ) (r : ℕ) (out
 
 -- ---- totals and lines of the first passes
 
-total-more : (f : Pass → ℕ) (ps : List Pass) (p : Pass) → total f (ps ++ p ∷ []) ≡ total f ps + f p
-unfolding total
-total-more f [] p = omega arith
-total-more f (x ∷ ps) p = omega (arith, total-more f ps p)
-
 total-take : (f : Pass → ℕ) (k : ℕ) (ps : List Pass) → total f (take k ps) ≤ total f ps
 unfolding total
 total-take f zero ps = omega arith
 total-take f (suc k) [] = omega arith
 total-take f (suc k) (x ∷ ps) = omega (arith, total-take f k ps)
-
-lines-more : (f : Pass → List ℕ) (ps : List Pass) (p : Pass) → flatMap f (ps ++ p ∷ []) ≡ flatMap f ps ++ f p
-unfolding flatMap
-lines-more f [] p = append-nil (f p)
-lines-more f (x ∷ ps) p = ap (λ (l : List ℕ). f x ++ l) (lines-more f ps p) ∙ sym (append-assoc (f x) (flatMap f ps) (f p))
 
 module _ (tb : Table) (a : Accepted tb) (k : ℕ) (h : k < length (passes tb)) where
   next : take (suc k) (passes tb) ≡ take k (passes tb) ++ planPass tb k ∷ []
@@ -108,7 +99,7 @@ module _ (tb : Table) (a : Accepted tb) (k : ℕ) (h : k < length (passes tb)) w
               ap (total pairCount) next,
               ap (total singleCount) next,
             );
-        holds = l .holds ∙ rw (s .holds, line-is (planPass tb k) refl x e) (sym (ap (flatMap (passLine tb)) next ∙ lines-more (passLine tb) (take k (passes tb)) (planPass tb k)));
+        holds = l .holds ∙ rw (s .holds, line-is (planPass tb k) refl x e) (sym (ap (flatMap (passLine tb)) next ∙ flat-more (passLine tb) (take k (passes tb)) (planPass tb k)));
       }
 
 -- ---- the passes in the work cells

@@ -1,6 +1,6 @@
 -- The whole run put together: arrays with room for the jobs of the input, and what the run prints and answers.
 use Prim.Native.Nat.{ℕ, _+_, _-_, _*_, _^_, _≤_, _<_}
-use mathlib.Core.Path.{_≡_, refl, sym, ap, _∙_}
+use mathlib.Core.Path.{_≡_, refl, sym, _∙_}
 use mathlib.Core.List.{List}
 use native.Mathlib.Nat.{sub-zero}
 use native.Mathlib.Omega.{arith}
@@ -13,11 +13,11 @@ use Rattle.model.specs.Table.{Reading, stopped, readTable}
 use Rattle.model.specs.Output.{planBytes, refusalBytes, readingBytes, runBytes, outputBytes, outputVerdict, runLength, runOutput}
 use Rattle.model.specs.Outcomes.{RunOutcome}
 use Rattle.model.specs.declared.Refusal.{Refusal}
-use Rattle.lines.specs.Writing.{Printed}
-use Rattle.sweep_laws.specs.Room.{sweep-room}
-use Rattle.passes.specs.Making.{Roomy}
 use Rattle.table.specs.Steps.{Unused, Room, BuffersReady, held}
 use Rattle.table.specs.Whole.{TableHeld}
+use Rattle.sweep_laws.specs.Room.{sweep-room}
+use Rattle.passes.specs.Making.{Roomy}
+use Rattle.lines.specs.Writing.{Printed}
 
 -- clear arrays with room for every job that the input can hold within the limit, and work cells for as many jobs as have room
 pub record ArraysFor (input tops bottoms marks work : List ℕ) : Type 0 where

@@ -3,7 +3,7 @@ use Prim.Native.Nat.{ℕ}
 use mathlib.Core.Path.{_≡_}
 use mathlib.Core.Bool.{Bool, cond, not}
 use mathlib.Core.List.{List, map}
-use lib.ListN.{length, getD, take}
+use lib.ListN.{getD, take}
 use lib.Dec.{leb}
 use Rattle.model.specs.Lists.{numbers, select, countWhere, sortBy}
 use Rattle.model.specs.Tree.{FFFF, depth}

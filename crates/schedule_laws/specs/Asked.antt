@@ -4,35 +4,30 @@ use Prim.Native.Nat.{ℕ, zero, suc, _+_, _-_, _<_, _≤_}
 use mathlib.Core.Path.{_≡_, refl, sym, ap, _∙_}
 use mathlib.Core.Logic.{⊎-elim, _↔_}
 use mathlib.Core.Bool.{Bool, true, _&&_, and-false}
-use mathlib.Core.List.{List, [], _∷_, headD, List·Memᴰ as Mem}
+use mathlib.Core.List.{List, [], _∷_}
 use native.Mathlib.Omega.{arith}
 use native.Mathlib.Decide.{decLt}
-use lib.ListN.{length, getD}
+use lib.ListN.{getD}
 use lib.Dec.{ltb, leb}
 use borrow.Author.Tests.{lt-ltb, le-ltb, le-leb, lt-leb, ltb-true}
-use Rattle.model.specs.Lists.{numbersFrom, numbers, select, countWhere, All}
+use Rattle.model.specs.Lists.{numbersFrom, numbers, select, countWhere}
 use Rattle.model.specs.Tree.{firstLeaf, lastLeaf}
 use Rattle.model.specs.Jobs.{Table, jobs, top, bottomLeaf}
 use Rattle.model.specs.Order.{leftward, slotOrder, slot, place}
 use Rattle.model.specs.Visits.{asksFor, askedSlots, askedFrom, askedTo}
-use Rattle.tree_laws.specs.Lists.{getD-mem, mem-all, range-mem, mem-range}
-use Rattle.tree_laws.specs.Numbers.{numbers-mem}
+use Rattle.laws.specs.Lists.{getD-mem, mem-all, select-agree}
+use Rattle.laws.specs.Numbers.{numbers-mem, range-head, range-length}
+use Rattle.laws.specs.Sorting.{irreflexive}
+use Rattle.laws.specs.Counting.{count-bound, count-le, count-lt}
 use Rattle.tree_laws.specs.Spans.{ancestor-span}
-use Rattle.matching.specs.RunningOrder.{lexicographic-true, lexicographic-first, leftward-order, slots-mem, slots-length, slot-count, slot-of-job}
-use Rattle.matching.specs.Sorting.{irreflexive}
 use Rattle.jobs.specs.Accepted.{Accepted}
-use Rattle.schedule_laws.specs.Counts.{count-bound, count-le, count-lt}
+use Rattle.matching.specs.RunningOrder.{lexicographic-true, lexicographic-first, leftward-order, slots-mem, slots-length, slot-count, slot-of-job}
 
 -- ---- a span of numbers
 
 -- s lies from `from` up to `to`
 abbrev between : ℕ → ℕ → ℕ → Bool
 between from to s = leb from s && ltb s to
-
-select-agree : (p q : ℕ → Bool) (l : List ℕ) → All (λ (x : ℕ). p x ≡ q x) l → select p l ≡ select q l
-unfolding select
-select-agree p q [] a = refl
-select-agree p q (x ∷ xs) a = rw (a .0, select-agree p q xs (a .1)) refl
 
 module _ (from to : ℕ) where
   -- of the numbers from a on those between: none where a is past the end, all up to the end where a is past the start
@@ -61,16 +56,6 @@ module _ (from to : ℕ) where
       go a n zero e k l = let same : a ≡ from = omega arith in rw same (select-inside from n (omega arith) h (omega arith))
       go a zero (suc d) e k l = absurd (omega arith)
       go a (suc n) (suc d) e k l = rw (lt-leb from a (omega arith)) (go (suc a) n d (omega arith) (omega arith) (omega arith))
-
-range-head : (a n d : ℕ) → 0 < n → headD (numbersFrom a n) d ≡ a
-unfolding numbersFrom headD
-range-head a zero d h = absurd (omega arith)
-range-head a (suc n) d h = refl
-
-range-length : (a n : ℕ) → length (numbersFrom a n) ≡ n
-unfolding numbersFrom
-range-length a zero = refl
-range-length a (suc n) = ap suc (range-length (suc a) n)
 
 -- ---- the slots by first leaf
 
@@ -168,17 +153,6 @@ module _ (tb : Table) where
     pub to-is : askedTo tb i ≡ leftOf (suc (lastLeaf (tb .parents) (top tb i)))
     unfolding askedTo
     to-is = rw (from-is, asked-range, range-length (start i) (end i - start i)) (omega (arith, own-start, own-end))
-
-    -- a slot is asked for exactly if it lies between the two
-    pub asked-between : (s : ℕ) → s < jobs tb → asksFor tb i s ≡ (leb (askedFrom tb i) s && ltb s (askedTo tb i))
-    asked-between s h = rw (from-is, to-is) (asks-between i s h)
-
-    pub asked-mem : (s : ℕ) → Mem s (askedSlots tb i) ↔ ((askedFrom tb i ≤ s) × (s < askedTo tb i))
-    asked-mem s =
-        rw (asked-range, from-is, to-is) (
-          λ m. let r = range-mem (start i) (end i - start i) m in (r .0, omega (arith, r .1, own-start, own-end)),
-          λ r. mem-range s (start i) (end i - start i) (r .0) (omega (arith, r .1, own-start, own-end)),
-        )
 
     -- the slot of a job is asked for exactly if its first leaf lies in the span of the top of i
     pub asked-slot : (j : ℕ) → j < jobs tb → (leb (askedFrom tb i) (slot tb j) && ltb (slot tb j) (askedTo tb i)) ≡ (leb (firstLeaf (tb .parents) (top tb i)) (bottomLeaf tb j) && leb (bottomLeaf tb j) (lastLeaf (tb .parents) (top tb i)))

@@ -1,6 +1,4 @@
 -- The schedule of an accepted table defines the table's own compatibility, so the sweep over it makes the plan.
-pub mod Levels
-pub mod Counts
 pub mod Places
 pub mod Asked
 pub mod ReachOrder

@@ -12,13 +12,13 @@ use Rattle.model.specs.Lists.{numbers, countWhere}
 use Rattle.model.specs.Tree.{depth, firstLeaf, lastLeaf}
 use Rattle.model.specs.Jobs.{Table, jobs, top, bottom, shares, topDepth, bottomLeaf}
 use Rattle.model.specs.Order.{runningOrder, place}
-use Rattle.tree_laws.specs.Lists.{getD-mem}
-use Rattle.tree_laws.specs.Numbers.{numbers-length, numbers-at}
+use Rattle.laws.specs.Lists.{getD-mem}
+use Rattle.laws.specs.Numbers.{numbers-length, numbers-at}
+use Rattle.laws.specs.Counting.{count-map}
 use Rattle.tree_laws.specs.Sharing.{theorem-6-test}
-use Rattle.matching.specs.Counting.{count-map}
+use Rattle.jobs.specs.Accepted.{Accepted}
 use Rattle.matching.specs.RunningOrder.{running-mem, running-length, running-count, place-of-job, place-earlier, earlier-depth}
 use Rattle.schedule.specs.OfTable.{jobAt}
-use Rattle.jobs.specs.Accepted.{Accepted}
 
 module _ (tb : Table) where
   -- at a place stands a job

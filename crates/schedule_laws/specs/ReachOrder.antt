@@ -3,7 +3,7 @@
 use Prim.Native.Nat.{ℕ, suc, _<_, _≤_}
 use mathlib.Core.Path.{_≡_, refl, sym, ap, _∙_}
 use mathlib.Core.Logic.{⊎-elim, _≢_}
-use mathlib.Core.Bool.{Bool, true, false, _&&_}
+use mathlib.Core.Bool.{Bool, true, false, _&&_, and-eq-true-iff}
 use mathlib.Core.List.{List, [], _∷_, List·Memᴰ as Mem}
 use native.Mathlib.Omega.{arith}
 use native.Mathlib.Decide.{ℕ-discrete}
@@ -12,17 +12,16 @@ use lib.Dec.{leb}
 use borrow.Author.Tests.{le-leb, leb-true}
 use Rattle.model.specs.Lists.{numbers, elem, indexOf, select, countWhere, All, AllPairs}
 use Rattle.model.specs.Jobs.{Table, jobs, topDepth}
-use Rattle.tree_laws.specs.Lists.{Distinct, answers, same-test, all-mem, mem-all, elem-mem, mem-elem, select-mem, mem-select, select-pairwise, getD-mem, pairwise-imply}
-use Rattle.tree_laws.specs.Numbers.{mem-numbers, numbers-mem, numbers-distinct}
-use Rattle.tree_laws.specs.Chain.{ancestor-depth}
-use Rattle.matching.specs.Lists.{and-both}
-use Rattle.matching.specs.Counting.{count-none, count-all, count-length, count-select}
-use Rattle.matching.specs.Places.{index-getD, index-take}
-use Rattle.matching.specs.Sorting.{StrictOrder, Before, sort-mem, mem-sort, sort-length, sort-count, sort-sorted, sort-rank, sorted-distinct}
+use Rattle.laws.specs.Lists.{Distinct, all-mem, mem-all, elem-mem, mem-elem, select-mem, mem-select, select-pairwise, getD-mem, pairwise-imply}
+use Rattle.laws.specs.Booleans.{answers, same-test}
+use Rattle.laws.specs.Numbers.{mem-numbers, numbers-mem, numbers-distinct}
+use Rattle.laws.specs.Counting.{count-none, count-all, count-length, count-select, count-within, count-implies}
+use Rattle.laws.specs.Places.{index-getD, index-take}
+use Rattle.laws.specs.Sorting.{StrictOrder, Before, sort-mem, mem-sort, sort-length, sort-count, sort-sorted, sort-rank, sorted-distinct}
+use Rattle.tree_laws.specs.Ancestors.{ancestor-depth}
+use Rattle.jobs.specs.Accepted.{Accepted}
 use Rattle.matching.specs.RunningOrder.{lexicographic-true, lexicographic-asymmetric, lexicographic-falling, lexicographic-total}
 use Rattle.schedule.specs.OfTable.{jobAt, asking, bottomDepth, sooner, reachOrder, due}
-use Rattle.jobs.specs.Accepted.{Accepted}
-use Rattle.schedule_laws.specs.Counts.{count-within, count-implies}
 use Rattle.schedule_laws.specs.Places.{job-known, later-depth}
 
 -- where a test passes for a leading part of a list only, that part is what it selects
@@ -111,12 +110,12 @@ module _ (tb : Table) where
       (λ x y m n s e. le-leb (topDepth tb (jobAt tb p)) (bottomDepth tb x) (omega (arith, leb-true (topDepth tb (jobAt tb p)) (bottomDepth tb y) e, sooner-depth x y s)))
       reach-sorted)
 
-  pub reached-at-turn : (p q : ℕ) → q < jobs tb → elem q (take (due tb p) (reachOrder tb)) ≡ (asking tb q && deep p q)
-  reached-at-turn p q h =
+  pub reached-deep : (p q : ℕ) → q < jobs tb → elem q (take (due tb p) (reachOrder tb)) ≡ (asking tb q && deep p q)
+  reached-deep p q h =
       rw (due-part p)
       (same-test (elem q (select (deep p) (reachOrder tb))) (asking tb q && deep p q)
       (λ e. let s = select-mem (deep p) (reachOrder tb) (elem-mem q (select (deep p) (reachOrder tb)) e) in rw (reach-mem (s .0) .1, s .1) refl)
-      (λ e. let b = and-both (asking tb q) (deep p q) e in mem-elem (mem-select (deep p) (mem-reach q h (b .0)) (b .1))))
+      (λ e. let b = and-eq-true-iff (asking tb q) (deep p q) .0 e in mem-elem (mem-select (deep p) (mem-reach q h (b .0)) (b .1))))
 
   pub due-within : (p : ℕ) → due tb p ≤ length (reachOrder tb)
   unfolding due
@@ -154,7 +153,7 @@ module _ (tb : Table) where
     reached-in-time r h =
         let p = reach-at r h in
         let own : deep (reachAt r) (reachAt r) ≡ true = le-leb (topDepth tb (jobAt tb (reachAt r))) (bottomDepth tb (reachAt r)) (own-deep (reachAt r) (p .0)) in
-        let m : Mem (reachAt r) (take (due tb (reachAt r)) (reachOrder tb)) = elem-mem (reachAt r) (take (due tb (reachAt r)) (reachOrder tb)) (reached-at-turn (reachAt r) (reachAt r) (p .0) ∙ rw (p .1, own) refl) in
+        let m : Mem (reachAt r) (take (due tb (reachAt r)) (reachOrder tb)) = elem-mem (reachAt r) (take (due tb (reachAt r)) (reachOrder tb)) (reached-deep (reachAt r) (reachAt r) (p .0) ∙ rw (p .1, own) refl) in
         omega (arith, index-take (due tb (reachAt r)) (reachOrder tb) m, index-getD (reachOrder tb) r 0 reach-distinct h)
 
     -- and at the last turn all are

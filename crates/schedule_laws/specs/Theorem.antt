@@ -17,19 +17,20 @@ use Rattle.model.specs.Order.{slot}
 use Rattle.model.specs.Greedy.{compatible, passes}
 use Rattle.model.specs.Visits.{levels, askedFrom, askedTo, lookupVisits, passVisits, cellCount}
 use Rattle.model.specs.Planning.{pairCount, pairs}
-use Rattle.tree_laws.specs.Lists.{answers, pairwise-imply}
-use Rattle.tree_laws.specs.Numbers.{numbers-length, numbers-at, numbers-mem, numbers-rise}
-use Rattle.matching.specs.Places.{index-getD}
+use Rattle.laws.specs.Booleans.{answers}
+use Rattle.laws.specs.Lists.{pairwise-imply}
+use Rattle.laws.specs.Numbers.{numbers-length, numbers-at, numbers-mem, numbers-rise}
+use Rattle.laws.specs.Places.{index-getD}
+use Rattle.laws.specs.Levels.{levels-wide}
+use Rattle.laws.specs.Counting.{count-bound}
+use Rattle.jobs.specs.Accepted.{Accepted}
 use Rattle.matching.specs.RunningOrder.{slot-lt, slot-injective}
 use Rattle.matching.specs.Renamed.{renamed, greedy-renamed, pairs-renamed, total-renamed}
 use Rattle.schedule.specs.Schedule.{places, slotAt, fromAt, toAt, dueAt, fits, passesByPlace, visitsAt, visitsOf, totalVisits, Sound}
 use Rattle.schedule.specs.OfTable.{jobAt, asking, bottomDepth, reachOrder, due, scheduleOf}
-use Rattle.jobs.specs.Accepted.{Accepted}
-use Rattle.schedule_laws.specs.Levels.{levels-wide}
-use Rattle.schedule_laws.specs.Counts.{count-bound}
 use Rattle.schedule_laws.specs.Places.{job-known, job-once, running-list, later-depth, theorem-6-ordered}
 use Rattle.schedule_laws.specs.Asked.{asked-slot, asked-bound, asks-itself}
-use Rattle.schedule_laws.specs.ReachOrder.{reachAt, reach-at, reach-length, reach-distinct, reached-at-turn, due-within, due-later, reached-in-time}
+use Rattle.schedule_laws.specs.ReachOrder.{reachAt, reach-at, reach-length, reach-distinct, reached-deep, due-within, due-later, reached-in-time}
 
 regroup : (a b c : Bool) → (true && a && (c && b)) ≡ ((a && b) && c)
 regroup true true true = refl
@@ -137,7 +138,7 @@ module _ (tb : Table) where
       fits-asking e =
           let from : fromAt (scheduleOf tb) p ≡ askedFrom tb (jobAt tb p) = from-at p p-known ∙ rw e refl in
           let to : toAt (scheduleOf tb) p ≡ askedTo tb (jobAt tb p) = to-at p p-known ∙ rw e refl in
-          rw (lt-ltb 0 (toAt (scheduleOf tb) p) (to-positive p p-known e), reached-is, due-is p p-known, reached-at-turn tb p q h, slot-is q h, from, to) refl
+          rw (lt-ltb 0 (toAt (scheduleOf tb) p) (to-positive p p-known e), reached-is, due-is p p-known, reached-deep tb p q h, slot-is q h, from, to) refl
 
       -- one that does not ask fits none
       fits-silent : asking tb p ≡ false → fits (scheduleOf tb) p q ≡ false

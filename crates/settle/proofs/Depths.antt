@@ -1,5 +1,5 @@
 -- Laws of the depths written so far.
-use Prim.Native.Nat.{ℕ, zero, suc, pred, _+_, _-_, _<_, _≤_}
+use Prim.Native.Nat.{ℕ, _+_, _-_, _<_, _≤_}
 use mathlib.Core.Path.{_≡_, _∙_}
 use mathlib.Core.Bool.{_||_}
 use mathlib.Core.List.{List}
@@ -10,9 +10,9 @@ use lib.ListN.{length, getD, set, length-set}
 use lib.Seq.{getD-set-same, getD-set-other}
 use lib.Dec.{eqb, ltb}
 use borrow.Author.Tests.{lt-ltb, le-ltb}
-use Rattle.model.specs.Tree.{layoutLimit, ascend, ancestors, depth}
+use Rattle.model.specs.Tree.{layoutLimit, depth}
 use Rattle.tree_laws.specs.WellFormed.{Tree}
-use Rattle.tree_laws.specs.Chain.{depth-root, depth-child}
+use Rattle.tree_laws.specs.Ancestors.{depth-root, depth-child, depth-le}
 use Rattle.settle.specs.Spanned.{treeCells}
 use Rattle.settle.specs.Numbering.{Stamped, below}
 use Rattle.settle.proofs.Stamps.{stamped-cell, stamped-reads, stamped-as, one-more}
@@ -23,19 +23,6 @@ pub record DepthsBelow (ps : List ℕ) (x : ℕ) (old new : List ℕ) : Type 0 w
   pub within : x ≤ length ps
   pub room : length new ≡ treeCells
   pub written : Stamped 0 layoutLimit (below x) (depth ps) old new
-
-climb-length : (n : ℕ) (ps : List ℕ) (x : ℕ) → length (ascend n ps x) ≤ suc n
-unfolding ascend
-climb-length zero ps x = omega arith
-climb-length (suc n) ps zero = omega arith
-climb-length (suc n) ps (suc x) = omega (arith, climb-length n ps (getD ps (suc x) 0))
-
--- a layout is no deeper than its number
-depth-le : (ps : List ℕ) (x : ℕ) → depth ps x ≤ x
-unfolding depth ancestors
-depth-le ps x =
-    let h : pred (length (ascend x ps x)) ≤ x = omega (arith, climb-length x ps x) in
-    h
 
 module _ (ps : List ℕ) (t : Tree ps) where
   pub depths-root : (old : List ℕ) → length old ≡ treeCells → DepthsBelow ps 1 (set old 0 0) (set old 0 0)

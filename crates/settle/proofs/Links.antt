@@ -11,8 +11,8 @@ use lib.Dec.{eqb}
 use borrow.Author.Tests.{eq-eqb, ne-eqb}
 use Rattle.model.specs.Lists.{numbersFrom, select}
 use Rattle.model.specs.Tree.{FFFF}
+use Rattle.laws.specs.Lists.{getD-inside}
 use Rattle.tree_laws.specs.WellFormed.{Tree}
-use Rattle.tree_laws.specs.Lists.{getD-inside}
 use Rattle.settle.specs.Numbering.{childrenFrom, siblingCells, linkCells, Unlinked, Linked}
 
 module _ (ps : List ℕ) where

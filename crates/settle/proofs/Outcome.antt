@@ -14,7 +14,7 @@ use Rattle.model.specs.Answers.{settledAnswer}
 use Rattle.model.specs.Outcomes.{SettledAs}
 use Rattle.model.specs.declared.Settled.{Settled}
 use Rattle.tree_laws.specs.WellFormed.{Tree}
-use Rattle.tree_laws.specs.Chain.{true-ancestor, ancestor-root}
+use Rattle.tree_laws.specs.Ancestors.{true-ancestor, ancestor-root}
 use Rattle.tree_laws.specs.Leaves.{first-root}
 use Rattle.settle.specs.Spanned.{firstCells, lastCells, treeCells, Spanned}
 use Rattle.settle.specs.Checked.{layoutsVerdict, over-limit, within-limit}

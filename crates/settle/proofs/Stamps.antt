@@ -11,7 +11,7 @@ use lib.Seq.{getD-set-same, getD-set-other, ext-getD, getD-append-add, getD-drop
 use lib.Dec.{eqb, ltb}
 use borrow.Author.Tests.{lt-ltb, le-ltb, eq-eqb, ne-eqb}
 use Rattle.model.specs.Lists.{numbers}
-use Rattle.tree_laws.specs.Numbers.{numbers-length, numbers-at}
+use Rattle.laws.specs.Numbers.{numbers-length, numbers-at}
 use Rattle.settle.specs.Numbering.{Stamped, below}
 
 module _ (base room : ℕ) where

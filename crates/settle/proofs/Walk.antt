@@ -13,9 +13,10 @@ use lib.Dec.{eqb, ltb}
 use borrow.Author.Tests.{lt-ltb, le-ltb, eq-eqb, ne-eqb, eqb-false}
 use Rattle.model.specs.Lists.{numbers, numbersFrom, anyOf, select}
 use Rattle.model.specs.Tree.{FFFF, layoutLimit, ancestorOrSelf, children, leaves, firstLeaf, lastLeaf}
+use Rattle.laws.specs.Booleans.{answers, one-answer}
+use Rattle.laws.specs.Lists.{any-mem, mem-any, flat-more}
 use Rattle.tree_laws.specs.WellFormed.{Tree}
-use Rattle.tree_laws.specs.Lists.{answers, any-mem, mem-any}
-use Rattle.tree_laws.specs.Chain.{AncestorOrSelf, ancestor-true, true-ancestor, ancestor-le, ancestor-refl}
+use Rattle.tree_laws.specs.Ancestors.{AncestorOrSelf, ancestor-true, true-ancestor, ancestor-le, ancestor-refl}
 use Rattle.tree_laws.specs.Children.{child-parent, child-greater, rest-greater, ancestor-child, child-ancestor}
 use Rattle.tree_laws.specs.Leaves.{leaves-nonempty, leaves-of-leaf, leaves-of-children, first-of-child, last-is, last-lt}
 use Rattle.settle.specs.Spanned.{firstCells, lastCells, treeCells}
@@ -71,9 +72,6 @@ under-more ps done c y =
     rw (any-append (λ (d : ℕ). ancestorOrSelf ps d y) done (c ∷ []), or-false (ancestorOrSelf ps c y))
     (sym (and-or-distrib-left (ltb y (length ps)) (anyOf (λ (d : ℕ). ancestorOrSelf ps d y) done) (ancestorOrSelf ps c y)))
 
-true-false : {b : Bool} → b ≡ true → b ≡ false → ⊥
-true-false {b} p q = let z : _≡_ {A = ℕ} 0 1 = cc in omega arith
-
 module _ (ps : List ℕ) (t : Tree ps) (x : ℕ) (known : x < length ps) where
   -- under one of the children is a descendant
   under-inside : (y : ℕ) → y < length ps → anyOf (λ (c : ℕ). ancestorOrSelf ps c y) (children ps x) ≡ (ancestorOrSelf ps x y && not (eqb y x))
@@ -92,7 +90,7 @@ module _ (ps : List ℕ) (t : Tree ps) (x : ℕ) (known : x < length ps) where
       none-below h true p true q = refl
       none-below h true p false q = absurd (⊎-elim
           (λ (same : x ≡ y). eqb-false y x q (sym same))
-          (λ (m : (c : ℕ) × (List·Memᴰ c (children ps x) × AncestorOrSelf ps c y)). true-false (mem-any (λ (c : ℕ). ancestorOrSelf ps c y) (m .1 .0) (true-ancestor ps t (m .1 .1))) h)
+          (λ (m : (c : ℕ) × (List·Memᴰ c (children ps x) × AncestorOrSelf ps c y)). one-answer (mem-any (λ (c : ℕ). ancestorOrSelf ps c y) (m .1 .0) (true-ancestor ps t (m .1 .1))) h)
           (ancestor-child ps t inside (ancestor-true ps t x y p)))
 
   pub under-all : (y : ℕ) → under ps (children ps x) y ≡ properlyInSubtree ps x y
@@ -137,11 +135,6 @@ head-bounds : (c : ℕ) (tail : List ℕ) → c < FFFF → ((d : ℕ) → List·
 unfolding headD
 head-bounds c [] h each = (h, omega arith)
 head-bounds c (d ∷ tail) h each = omega (arith, each d (List·Memᴰ·head refl))
-
-flatMap-snoc : (f : ℕ → List ℕ) (xs : List ℕ) (c : ℕ) → flatMap f (xs ++ c ∷ []) ≡ flatMap f xs ++ f c
-unfolding flatMap
-flatMap-snoc f [] c = append-nil (f c)
-flatMap-snoc f (x ∷ xs) c = ap (λ (l : List ℕ). f x ++ l) (flatMap-snoc f xs c) ∙ sym (append-assoc (f x) (flatMap f xs) (f c))
 
 nothing-under : (base : ℕ) (ps : List ℕ) (f : ℕ → ℕ) (old : List ℕ) → Stamped base layoutLimit (under ps []) f old old
 unfolding anyOf
@@ -208,7 +201,7 @@ module _ (ps : List ℕ) (t : Tree ps) (x : ℕ) (known : x < length ps) where
           rest = h .tail;
           split = h .split ∙ sym (append-assoc (d .done) (c ∷ []) (h .tail));
           current = linked .sibling-at c (h .positive) (h .inside) ∙ rw (h .parent, children-after ps x (d .done) c (h .tail) (h .split));
-          next-leaf = n .after ∙ rw (← (h .start), d .next-leaf, flatMap-snoc (leaves ps) (d .done) c, length-append (flatMap (leaves ps) (d .done)) (leaves ps c)) (omega arith);
+          next-leaf = n .after ∙ rw (← (h .start), d .next-leaf, flat-more (leaves ps) (d .done) c, length-append (flatMap (leaves ps) (d .done)) (leaves ps c)) (omega arith);
           same = n .same ∙ d .same;
           depths-kept = λ y k. n .depths-kept y k ∙ d .depths-kept y k;
           firsts-hold = more-under firstCells (firstLeaf ps) newer (d .firsts-hold) (n .firsts-hold);

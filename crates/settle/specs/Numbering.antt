@@ -7,7 +7,7 @@ use lib.ListN.{length, getD}
 use lib.Dec.{eqb, ltb}
 use Rattle.model.specs.Lists.{numbersFrom, select}
 use Rattle.model.specs.Verdict.{refuseIf}
-use Rattle.model.specs.Tree.{FFFF, layoutLimit, layoutsFrom, ancestorOrSelf, depth, leaves, firstLeaf, lastLeaf}
+use Rattle.model.specs.Tree.{FFFF, layoutLimit, layoutsFrom, ancestorOrSelf, leaves, firstLeaf, lastLeaf}
 use Rattle.tree_laws.specs.WellFormed.{Tree}
 use Rattle.settle.specs.Spanned.{firstCells, lastCells, treeCells}
 

@@ -1,28 +1,29 @@
--- Laws in the shape that the functions' proofs ask for. The turns of the two loops: what has been walked, and the definition of what
--- remains, make the definition of the whole. Then the cases of `leading`, and the outcome from its case. Assumes nothing.
+-- Laws in the shape that the functions' proofs ask for. The passes of the two loops: what has been walked, and the definition of what
+-- remains, make the definition of the whole. Then the cases of `leading`, and the outcome from its case.
 use Prim.Native.Nat.{ℕ, suc, _+_, _≤_, _<_}
+use mathlib.Core.Path.{_≡_, refl, sym}
+use mathlib.Core.List.{List, [], _∷_}
 use native.Mathlib.Nat.{suc-ne-zero}
 use native.Mathlib.Omega.{arith}
 use native.Mathlib.Numerals.{add-one}
-use mathlib.Core.Path.{_≡_, refl, sym}
-use mathlib.Core.List.{List, [], _∷_}
-use denote.Ref.{RefT, ptr, now}
 use lib.ListN.{length, getD, take, drop, drop-of-length-le}
 use lib.Seq.{drop-cons, length-take-le}
+use denote.Ref.{RefT, ptr, now}
 use Rattle.model.specs.Stretch.{agreement, leading, Stretch, stretchOf, begun, numbersOf, StretchOutcome}
 use Rattle.model.specs.Lists.{indexOf}
-use Rattle.stretch.specs.StretchLaws.{indexOf-here, indexOf-later, agreement-same, agreement-differs, agreement-nil, leading-le}
+use Rattle.laws.specs.Places.{index-here, index-there}
+use Rattle.stretch.specs.StretchLaws.{agreement-same, agreement-differs, agreement-nil, leading-le}
 
 -- x does not stand in the first n of ys
 module _ (x : ℕ) (ys : List ℕ) (n : ℕ) (walked : n + indexOf x (drop n ys) ≡ indexOf x ys) where
   pub place-found : n < length ys → getD ys n 0 ≡ x → n ≡ indexOf x ys
   place-found h e =
-      let here : indexOf x (drop n ys) ≡ 0 = rw (drop-cons ys n 0 h) (indexOf-here x _ _ e) in
+      let here : indexOf x (drop n ys) ≡ 0 = rw (drop-cons ys n 0 h) (index-here _ (sym e)) in
       omega arith
 
   pub place-next : n < length ys → (getD ys n 0 ≡ x → ⊥) → (n + 1) + indexOf x (drop (n + 1) ys) ≡ indexOf x ys
   place-next h e =
-      let later : indexOf x (drop n ys) ≡ suc (indexOf x (drop (n + 1) ys)) = rw (drop-cons ys n 0 h, add-one) (indexOf-later x _ _ e) in
+      let later : indexOf x (drop n ys) ≡ suc (indexOf x (drop (n + 1) ys)) = rw (drop-cons ys n 0 h, add-one) (index-there _ (λ s. e (sym s))) in
       omega arith
 
   pub place-absent : length ys ≤ n → n ≡ indexOf x ys
@@ -75,4 +76,4 @@ leading-part xs ys n e = sym (length-take-le n xs (rw e (leading-le xs ys)))
 -- an answer is right that is the right part of the right list
 pub outcome : (first second answer : RefT (List ℕ)) (s : Stretch) → stretchOf (now first) (now second) ≡ s
     → now answer ≡ numbersOf s (now first) (now second) → ptr answer ≡ begun s (ptr first) (ptr second) → StretchOutcome first second answer
-outcome first second answer s e numbers borrowed = record { numbers = rw e numbers; borrowed = rw e borrowed }
+outcome first second answer s e numbers borrowed = record { holds = rw e numbers; borrowed = rw e borrowed }

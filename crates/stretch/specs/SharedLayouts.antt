@@ -1,20 +1,20 @@
 -- For two jobs' paths written from top to bottom the shared stretch holds exactly the shared layouts (document 01, "Shared stretch").
--- Assumes nothing.
 use Prim.Native.Nat.{ℕ, suc, pred, _+_, _<_}
-use native.Mathlib.Omega.{arith}
-use native.Mathlib.Decide.{decLt}
 use mathlib.Core.Path.{_≡_, refl, sym, ap, _∙_, subst}
 use mathlib.Core.Logic.{⊎-elim}
-use mathlib.Core.Bool.{Bool, true, false, _&&_}
+use mathlib.Core.Bool.{true, _&&_, and-eq-true-iff}
 use mathlib.Core.List.{List, [], _∷_, _++_, reverse, reverse-cons, List·Memᴰ as Mem, List·Memᴰ·head as here, List·Memᴰ·tail as there, Memᴰ·append-left, Memᴰ·append-right, List·Memᴰ·append-cases, List·Memᴰ·cases-cons, List·Memᴰ·eq-of-singleton}
+use native.Mathlib.Omega.{arith}
+use native.Mathlib.Decide.{decLt}
 use lib.ListN.{length, getD, length-append, List·getD-append}
 use lib.Seq.{getD-append-seam}
 use Rattle.model.specs.Lists.{elem}
-use Rattle.model.specs.Jobs.{Table, path, pathFrom, top, bottom}
+use Rattle.model.specs.Jobs.{Table, path, pathFrom}
 use Rattle.model.specs.Stretch.{stretchOf, numbersOf}
+use Rattle.laws.specs.Lists.{elem-mem, mem-elem, getD-mem}
+use Rattle.laws.specs.Booleans.{same-test}
 use Rattle.tree_laws.specs.WellFormed.{Tree}
-use Rattle.tree_laws.specs.Lists.{elem-mem, mem-elem, getD-mem, same-test}
-use Rattle.tree_laws.specs.Chain.{AncestorOrSelf, self, up}
+use Rattle.tree_laws.specs.Ancestors.{AncestorOrSelf, self, up}
 use Rattle.tree_laws.specs.Sharing.{Downward, path-one, path-up}
 use Rattle.stretch.specs.StretchPaths.{Stands, Descending, shared-in-stretch, stretch-in-both}
 
@@ -99,13 +99,6 @@ mem-stands (there m) = let s = mem-stands m in record { place = suc (s .place); 
 stands-mem : {x : ℕ} {l : List ℕ} → Stands x l → Mem x l
 stands-mem {x} {l} s = subst (λ (y : ℕ). Mem y l) (s .here) (getD-mem l (s .place) 0 (s .within))
 
-both-true : {a b : Bool} → a ≡ true → b ≡ true → (a && b) ≡ true
-both-true {a} {b} p q = rw (p, q)
-
-true-both : (a b : Bool) → (a && b) ≡ true → (a ≡ true) × (b ≡ true)
-true-both true b e = (refl, e)
-true-both false b e = (cc, cc)
-
 -- ---- the law
 
 module _ (tb : Table) (t : Tree (tb .parents)) (i j : ℕ) (down-i : Downward tb i) (down-j : Downward tb j) where
@@ -124,11 +117,11 @@ module _ (tb : Table) (t : Tree (tb .parents)) (i j : ℕ) (down-i : Downward tb
       in-both : elem x stretchOfPaths ≡ true → (elem x (path tb i) && elem x (path tb j)) ≡ true
       in-both e =
           let both = stretch-in-both (reverse (path tb i)) (reverse (path tb j)) x (mem-stands (elem-mem x stretchOfPaths e)) in
-          both-true (mem-elem (mem-reverse (path tb i) (stands-mem (both .0)))) (mem-elem (mem-reverse (path tb j) (stands-mem (both .1))))
+          and-eq-true-iff (elem x (path tb i)) (elem x (path tb j)) .1 ((mem-elem (mem-reverse (path tb i) (stands-mem (both .0)))), (mem-elem (mem-reverse (path tb j) (stands-mem (both .1)))))
 
       in-stretch : (elem x (path tb i) && elem x (path tb j)) ≡ true → elem x stretchOfPaths ≡ true
       in-stretch e =
-          let both = true-both (elem x (path tb i)) (elem x (path tb j)) e in
+          let both = and-eq-true-iff (elem x (path tb i)) (elem x (path tb j)) .0 e in
           mem-elem (stands-mem (shared-in-stretch (λ (y : ℕ). getD (tb .parents) y 0) (reverse (path tb i)) (reverse (path tb j)) (along .0) (along .1) x
           (mem-stands (reverse-mem (path tb i) (elem-mem x (path tb i) (both .0))))
           (mem-stands (reverse-mem (path tb j) (elem-mem x (path tb j) (both .1))))))

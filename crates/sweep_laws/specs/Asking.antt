@@ -1,4 +1,4 @@
--- The turn of a place that asks: it leaves the segment tree, and so does the mate that it finds; the sweep is then at the next place.
+-- The step of a place that asks: it leaves the segment tree, and so does the mate that it finds; the sweep is then at the next place.
 use Prim.Native.Nat.{ℕ, suc, _+_, _-_, _*_, _<_, _≤_, _^_}
 use mathlib.Core.Path.{_≡_, refl, sym, ap, _∙_}
 use mathlib.Core.Logic.{_≢_}
@@ -12,11 +12,11 @@ use lib.Dec.{eqb}
 use borrow.Author.Tests.{eq-eqb, ne-eqb, eqb-false, lt-ltb}
 use Rattle.model.specs.Tree.{FFFF}
 use Rattle.model.specs.Jobs.{jobLimit}
+use Rattle.laws.specs.Levels.{levels-least}
 use Rattle.schedule.specs.Schedule.{Schedule, slotAt, fromAt, toAt, visitsAt}
 use Rattle.schedule.specs.InWork.{slotPart, fromPart, toPart, reachedPart, duePart, matePart, treePart}
 use Rattle.sweep_laws.specs.SegmentTree.{entriesIn, removeEntry, smallest, Searchable, Minimum}
 use Rattle.sweep_laws.specs.VisitBound.{visits-bound}
-use Rattle.sweep_laws.specs.Levels.{levels-least}
 use Rattle.sweep_laws.specs.WorkCells.{FrontKept, front-both, front-set-both, mid-tail, treeIn, TreeChanged, tree-set}
 use Rattle.sweep_laws.specs.Sweeping.{freeAt, Waiting, Open, Setting, Cells, Sweeping, Asking, paired, Chosen, PlaceRemovable, Pairable}
 use Rattle.sweep_laws.specs.WaitingLaws.{waiting-as, waiting-remove}
@@ -100,7 +100,7 @@ module _ (s : Schedule) (n width i q : ℕ) (work : List ℕ) (known : i < n) (i
         to-cell = λ p l h f. let o = free-else p l h f in other (toPart * n + p) (λ e. omega arith) (λ e. omega arith) (λ e. o .0 (omega arith)) ∙ c .to-cell p (omega arith) h (o .1);
       }
 
--- ---- the turn
+-- ---- the step
 
 -- the slot of any place can be emptied
 place-removable : (s : Schedule) (n kept width i : ℕ) (work : List ℕ) (waits : ℕ → Type 0) (p : ℕ) → p < n → Setting s n kept width → Cells s n width i work → Waiting s n kept width waits (treeIn n work) → PlaceRemovable n kept width p work

@@ -3,7 +3,7 @@
 use Prim.Native.Nat.{ℕ, suc, _-_, _<_, _≤_}
 use mathlib.Core.Path.{_≡_, refl, sym, ap, _∙_}
 use mathlib.Core.Logic.{⊎-elim}
-use mathlib.Core.Bool.{true, true≢false, _&&_}
+use mathlib.Core.Bool.{true, true≢false, _&&_, and-eq-true-iff}
 use mathlib.Core.Option.{none, some}
 use mathlib.Core.List.{List, List·Memᴰ as Mem}
 use native.Mathlib.Omega.{arith}
@@ -12,8 +12,8 @@ use lib.Dec.{ltb, leb}
 use borrow.Author.Tests.{lt-ltb, le-leb, leb-true, ltb-true}
 use Rattle.model.specs.Lists.{numbersFrom, elem, find, AllPairs}
 use Rattle.model.specs.Tree.{FFFF}
-use Rattle.tree_laws.specs.Lists.{select-mem, mem-select, select-pairwise, range-mem, mem-range, range-rises, elem-mem, mem-elem}
-use Rattle.matching.specs.Lists.{found-or-none, find-some, find-none, find-first, and-both}
+use Rattle.laws.specs.Lists.{select-mem, mem-select, select-pairwise, elem-mem, mem-elem, found-or-none, find-some, find-none, find-first}
+use Rattle.laws.specs.Numbers.{range-mem, mem-range, range-rises}
 use Rattle.schedule.specs.Schedule.{Schedule, slotAt, fromAt, toAt, dueAt, fits}
 use Rattle.sweep_laws.specs.SegmentTree.{entriesIn, smallest}
 use Rattle.sweep_laws.specs.EntryLaws.{smallest-le, smallest-entry}
@@ -45,9 +45,9 @@ module _ (s : Schedule) (n kept width i next : ℕ) (work nodes : List ℕ) (few
   fits-true : (q : ℕ) → fits s i q ≡ true → Fitting q
   fits-true q e =
       let whole : (ltb 0 (toAt s i) && (elem q (take (dueAt s i) (s .reached)) && (leb (fromAt s i) (slotAt s q) && ltb (slotAt s q) (toAt s i)))) ≡ true = unfold fits in e in
-      let one = and-both (ltb 0 (toAt s i)) (elem q (take (dueAt s i) (s .reached)) && (leb (fromAt s i) (slotAt s q) && ltb (slotAt s q) (toAt s i))) whole in
-      let two = and-both (elem q (take (dueAt s i) (s .reached))) (leb (fromAt s i) (slotAt s q) && ltb (slotAt s q) (toAt s i)) (one .1) in
-      let three = and-both (leb (fromAt s i) (slotAt s q)) (ltb (slotAt s q) (toAt s i)) (two .1) in
+      let one = and-eq-true-iff (ltb 0 (toAt s i)) (elem q (take (dueAt s i) (s .reached)) && (leb (fromAt s i) (slotAt s q) && ltb (slotAt s q) (toAt s i))) .0 whole in
+      let two = and-eq-true-iff (elem q (take (dueAt s i) (s .reached))) (leb (fromAt s i) (slotAt s q) && ltb (slotAt s q) (toAt s i)) .0 (one .1) in
+      let three = and-eq-true-iff (leb (fromAt s i) (slotAt s q)) (ltb (slotAt s q) (toAt s i)) .0 (two .1) in
       record {
         reached = rw next-is (elem-mem q (take (dueAt s i) (s .reached)) (two .0));
         from = leb-true (fromAt s i) (slotAt s q) (three .0);

@@ -13,7 +13,8 @@ use lib.Dec.{leb, eqb}
 use borrow.Author.Tests.{le-leb, lt-leb, lt-ltb, le-ltb, eq-eqb, ne-eqb, eqb-false, not-true}
 use Rattle.model.specs.Lists.{select, insertBy}
 use Rattle.model.specs.Tree.{FFFF}
-use Rattle.tree_laws.specs.Lists.{getD-inside, answers}
+use Rattle.laws.specs.Lists.{getD-inside}
+use Rattle.laws.specs.Booleans.{answers}
 use Rattle.sweep_laws.specs.SegmentTree.{slots, Entry, entriesFrom, entries, leftOf, insertEntry, removeEntry, smallest, Vacant}
 
 -- ---- over the entries

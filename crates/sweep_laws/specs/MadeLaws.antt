@@ -1,30 +1,25 @@
--- One turn of the sweep makes one step of the greedy rule: the place is taken already, runs alone, or takes a mate.
-use Prim.Native.Nat.{ℕ, zero, suc, _+_, _-_, _*_, _<_, _≤_}
+-- One step of the sweep makes one step of the greedy rule: the place is taken already, runs alone, or takes a mate.
+use Prim.Native.Nat.{ℕ, suc, _+_, _-_, _*_, _<_, _≤_}
 use mathlib.Core.Path.{_≡_, refl, sym, ap, _∙_}
 use mathlib.Core.Bool.{Bool, true, false, not, _&&_}
 use mathlib.Core.Option.{none}
 use mathlib.Core.List.{List, [], _∷_, _++_, map, append-assoc, append-nil, List·Memᴰ as Mem, List·Memᴰ·head as here, List·Memᴰ·tail as there}
 use native.Mathlib.Omega.{arith}
 use native.Mathlib.Decide.{ℕ-discrete}
-use native.Mathlib.Nat.{add-zero, zero-add}
 use native.Mathlib.Numerals.{add-one}
 use lib.ListN.{getD}
 use lib.Dec.{eqb}
-use Rattle.model.specs.Lists.{numbersFrom, numbers, select, total}
+use Rattle.model.specs.Lists.{numbersFrom, numbers, select}
 use Rattle.model.specs.Greedy.{Pass, greedy, without}
 use Rattle.model.specs.Planning.{pairCount}
-use Rattle.tree_laws.specs.Lists.{select-yes, select-no, range-mem}
+use Rattle.laws.specs.Lists.{select-yes, select-no, select-agree, mem-all, total-more}
+use Rattle.laws.specs.Numbers.{range-mem, range-first, numbers-more, range-agree}
 use Rattle.matching.specs.Passes.{greedy-done}
 use Rattle.schedule.specs.Schedule.{Schedule, fits, passesByPlace, visitsOf}
 use Rattle.schedule.specs.InWork.{matePart, openerPart, passOf, passAt}
 use Rattle.sweep_laws.specs.Sweeping.{freeAt, remaining, Made}
 
 -- ---- what remains
-
-select-agree : (p q : ℕ → Bool) (l : List ℕ) → ((x : ℕ) → Mem x l → p x ≡ q x) → select p l ≡ select q l
-unfolding select
-select-agree p q [] h = refl
-select-agree p q (x ∷ l) h = rw (h x (here refl), select-agree p q l (λ y m. h y (there m))) refl
 
 -- a selection by two tests, one after the other
 select-both : (p q r : ℕ → Bool) (x : ℕ) (l : List ℕ) (a b : Bool) → q x ≡ a → r x ≡ b → p x ≡ (b && a) → select p l ≡ select r (select q l) → select p (x ∷ l) ≡ select r (select q (x ∷ l))
@@ -37,10 +32,6 @@ select-both p q r x l false false qx rx px e = rw (qx, px, e) refl
 select-twice : (p q r : ℕ → Bool) (l : List ℕ) → ((x : ℕ) → Mem x l → p x ≡ (r x && q x)) → select p l ≡ select r (select q l)
 select-twice p q r [] h = unfold select in refl
 select-twice p q r (x ∷ l) h = select-both p q r x l (q x) (r x) refl refl (h x (here refl)) (select-twice p q r l (λ y m. h y (there m)))
-
-range-first : (n i : ℕ) → i < n → numbersFrom i (n - i) ≡ i ∷ numbersFrom (suc i) (n - suc i)
-unfolding numbersFrom
-range-first n i h = let one : n - i ≡ suc (n - suc i) = omega arith in rw one refl
 
 module _ (n : ℕ) (work : List ℕ) (i : ℕ) (known : i < n) where
   pub remaining-free : freeAt n work i ≡ true → remaining n work i ≡ i ∷ remaining n work (suc i)
@@ -55,7 +46,7 @@ module _ (n : ℕ) (work work′ : List ℕ) (j : ℕ) where
   -- the same are free from place j on
   pub remaining-same : ((p : ℕ) → j ≤ p → p < n → freeAt n work′ p ≡ freeAt n work p) → remaining n work′ j ≡ remaining n work j
   unfolding remaining
-  remaining-same same = select-agree (freeAt n work′) (freeAt n work) (numbersFrom j (n - j)) (λ p m. let r = range-mem j (n - j) m in same p (r .0) (omega (arith, r .0, r .1)))
+  remaining-same same = select-agree (freeAt n work′) (freeAt n work) (numbersFrom j (n - j)) (mem-all (λ (p : ℕ). freeAt n work′ p ≡ freeAt n work p) (numbersFrom j (n - j)) (λ p m. let r = range-mem j (n - j) m in same p (r .0) (omega (arith, r .0, r .1))))
 
   -- or all but q
   pub remaining-without : (q : ℕ) → ((p : ℕ) → j ≤ p → p < n → freeAt n work′ p ≡ (not (eqb p q) && freeAt n work p)) → remaining n work′ j ≡ without q (remaining n work j)
@@ -68,25 +59,6 @@ unfolding remaining numbersFrom select
 remaining-end n work = let none : n - n ≡ 0 = omega arith in rw none refl
 
 -- ---- the passes made
-
-total-more : (f : Pass → ℕ) (ps : List Pass) (p : Pass) → total f (ps ++ p ∷ []) ≡ total f ps + f p
-unfolding total
-total-more f [] p = omega arith
-total-more f (q ∷ ps) p = rw (total-more f ps p) (omega arith)
-
-range-more : (f : ℕ → Pass) (a m : ℕ) → map f (numbersFrom a (suc m)) ≡ map f (numbersFrom a m) ++ f (a + m) ∷ []
-unfolding numbersFrom
-range-more f a zero = rw (add-zero a) refl
-range-more f a (suc m) = let next : suc a + m ≡ a + suc m = omega arith in ap (λ (l : List Pass). f a ∷ l) (range-more f (suc a) m ∙ rw next refl)
-
-numbers-more : (f : ℕ → Pass) (m : ℕ) → map f (numbers (suc m)) ≡ map f (numbers m) ++ f m ∷ []
-unfolding numbers
-numbers-more f m = range-more f 0 m ∙ rw (zero-add m) refl
-
-range-agree : (f g : ℕ → Pass) (a m : ℕ) → ((k : ℕ) → a ≤ k → k < a + m → f k ≡ g k) → map f (numbersFrom a m) ≡ map g (numbersFrom a m)
-unfolding numbersFrom
-range-agree f g a zero h = refl
-range-agree f g a (suc m) h = rw (h a (omega arith) (omega arith), range-agree f g (suc a) m (λ k l r. h k (omega arith) (omega arith))) refl
 
 numbers-agree : (f g : ℕ → Pass) (m : ℕ) → ((k : ℕ) → k < m → f k ≡ g k) → map f (numbers m) ≡ map g (numbers m)
 unfolding numbers

@@ -42,10 +42,10 @@ module _ (f : ℕ → ℕ) where
   ]
 
   -- two spans side by side
-  least-join : (a m n : ℕ) → leastOf f a (m + n) ≡ min (leastOf f a m) (leastOf f (a + m) n)
+  least-append : (a m n : ℕ) → leastOf f a (m + n) ≡ min (leastOf f a m) (leastOf f (a + m) n)
   unfolding leastOf
-  least-join a zero n = rw (zero-add n, add-zero a) (omega (arith, least-cap a n))
-  least-join a (suc m) n = rw (suc-add m n, least-join (suc a) m n, add-suc a m, suc-add a m) (omega arith)
+  least-append a zero n = rw (zero-add n, add-zero a) (omega (arith, least-cap a n))
+  least-append a (suc m) n = rw (suc-add m n, least-append (suc a) m n, add-suc a m, suc-add a m) (omega arith)
 
   -- where each node is the smaller of the two below it, a span of nodes has the smallest place of the span below
   least-double : (a n : ℕ) → ((i : ℕ) → a ≤ i → i < a + n → f i ≡ min (f (2 * i)) (f (2 * i + 1))) → leastOf f (2 * a) (2 * n) ≡ leastOf f a n
@@ -104,7 +104,7 @@ module _ (kept width : ℕ) (nodes : List ℕ) where
       let mid : l + (2 * a - l) ≡ 2 * a = omega arith in
       let end : 2 * a + 2 * (b - a) ≡ 2 * b = omega arith in
       let parts : leastOf f l (r - l) ≡ min (leastOf f l (2 * a - l)) (min (leastOf f (2 * a) (2 * (b - a))) (leastOf f (2 * b) (r - 2 * b))) =
-      rw (whole, least-join f l (2 * a - l) (2 * (b - a) + (r - 2 * b)), mid, least-join f (2 * a) (2 * (b - a)) (r - 2 * b), end) in
+      rw (whole, least-append f l (2 * a - l) (2 * (b - a) + (r - 2 * b)), mid, least-append f (2 * a) (2 * (b - a)) (r - 2 * b), end) in
       let above : leastOf f (2 * a) (2 * (b - a)) ≡ leastOf f a (b - a) =
       least-double f a (b - a) (λ i c d. s .inner i (omega arith) (omega (arith, n .within))) in
       record {

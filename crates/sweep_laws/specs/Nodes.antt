@@ -6,8 +6,8 @@ use mathlib.Core.List.{List, _++_, append-assoc}
 use native.Mathlib.Omega.{arith}
 use native.Mathlib.Decide.{ℕ-discrete}
 use lib.ListN.{length, getD, take, drop, set, replicate, length-set, length-append, length-replicate, getD-replicate, length-drop, replicate-append-replicate, List·getD-append}
-use borrow.Author.Fill.{fill-more}
 use lib.Seq.{getD-set-same, getD-set-other, drop-set-lt, drop-set-add, take-set-lt, drop-at, take-at}
+use borrow.Author.Fill.{fill-more}
 use Rattle.model.specs.Tree.{FFFF}
 use Rattle.sweep_laws.specs.SegmentTree.{slots, entries, entriesIn, SegmentTree, Cleared, Inserted, Removed, Clearable, Insertable}
 use Rattle.sweep_laws.specs.EntryLaws.{slots-length, slot-cell, vacant-slot, entries-insert, entries-remove, no-entries}
@@ -35,7 +35,7 @@ module _ (kept width : ℕ) (cells : List ℕ) (slot p : ℕ) (s : SegmentTree k
   stored-slot : Stored kept width (set cells (width + slot) p) (set cells (width + slot) p)
   stored-slot = record { some = s .some; inside = s .within; room = rw length-set (s .room); same = refl; holds = refl; past = refl }
 
-  -- every inner node but the one above the slot is right
+  -- every inner node but the parent of the slot is right
   stored-inner : (n : ℕ) → kept ≤ n → n < width → n ≢ (width + slot) / 2 → getD (set cells (width + slot) p) n 0 ≡ min (getD (set cells (width + slot) p) (2 * n) 0) (getD (set cells (width + slot) p) (2 * n + 1) 0)
   stored-inner n a b other =
       let here : n ≡ width + slot → ⊥ = λ e. omega arith in
@@ -71,9 +71,9 @@ pub record Inserting (kept width p : ℕ) (old new : List ℕ) (node : ℕ) : Ty
   pub inner : (n : ℕ) → kept ≤ n → n < width → n ≢ node → getD new n 0 ≡ min (getD new (2 * n) 0) (getD new (2 * n + 1) 0)
   pub next : kept ≤ node → min (getD new node 0) p ≡ min (getD new (2 * node) 0) (getD new (2 * node + 1) 0)
 
--- where the node above a node is right, it is right again once both take p
-above-right : (new : List ℕ) (node p v : ℕ) → 2 ≤ node → node < length new → v ≡ min (getD new node 0) p → getD new (node / 2) 0 ≡ min (getD new (2 * (node / 2)) 0) (getD new (2 * (node / 2) + 1) 0) → min (getD (set new node v) (node / 2) 0) p ≡ min (getD (set new node v) (2 * (node / 2)) 0) (getD (set new node v) (2 * (node / 2) + 1) 0)
-above-right new node p v h inside v-is right =
+-- where the parent of a node is right, it is right again once both take p
+parent-right : (new : List ℕ) (node p v : ℕ) → 2 ≤ node → node < length new → v ≡ min (getD new node 0) p → getD new (node / 2) 0 ≡ min (getD new (2 * (node / 2)) 0) (getD new (2 * (node / 2) + 1) 0) → min (getD (set new node v) (node / 2) 0) p ≡ min (getD (set new node v) (2 * (node / 2)) 0) (getD (set new node v) (2 * (node / 2) + 1) 0)
+parent-right new node p v h inside v-is right =
     let m : ℕ = node / 2 in
     let here : getD (set new node v) m 0 ≡ getD new m 0 = getD-set-other new node m v 0 (λ e. omega arith) in
     elim (ℕ-discrete node (2 * m)) [
@@ -98,7 +98,7 @@ inserting-slot kept width cells slot p i =
       stored = stored-slot kept width cells slot p (i .tree) (i .inside);
       within = omega (arith, i .inside);
       inner = stored-inner kept width cells slot p (i .tree) (i .inside);
-      next = λ h. above-right cells (width + slot) p p (omega arith) (omega (arith, i .tree .room, i .inside)) (omega (arith, i .some-place)) (i .tree .inner ((width + slot) / 2) h (omega (arith, i .inside)));
+      next = λ h. parent-right cells (width + slot) p p (omega arith) (omega (arith, i .tree .room, i .inside)) (omega (arith, i .some-place)) (i .tree .inner ((width + slot) / 2) h (omega (arith, i .inside)));
     }
 
 module _ (kept width p : ℕ) where
@@ -119,10 +119,10 @@ module _ (kept width p : ℕ) where
               let right : 2 * n + 1 ≢ node = λ e. other (omega arith) in
               rw (getD-set-other new node n v 0 e, getD-set-other new node (2 * n) v 0 left, getD-set-other new node (2 * n + 1) v 0 right) (r .inner n a b e)
         ];
-        next = λ some. above-right new node p v (omega arith) inside v-is (r .inner (node / 2) some (omega (arith, r .within)) (λ e. omega arith));
+        next = λ some. parent-right new node p v (omega arith) inside v-is (r .inner (node / 2) some (omega (arith, r .within)) (λ e. omega arith));
       }
 
-  -- no node stands above the root
+  -- the root has no parent
   pub inserting-done : (cells : List ℕ) (slot : ℕ) (new : List ℕ) (node : ℕ) → node < kept → Insertable kept width cells slot p → Inserting kept width p (set cells (width + slot) p) new node → Inserted kept width cells slot p new
   inserting-done cells slot new node top i r =
       record {
@@ -133,10 +133,10 @@ module _ (kept width p : ℕ) where
 
 -- ---- a removal on its way up
 
--- it has come up to `node`, where the smallest place is `least`: every inner node but the one above is right
+-- it has come up to `node`, where the smallest place is `least`: every inner node but its parent is right
 pub record Removing (kept width : ℕ) (old new : List ℕ) (node least : ℕ) : Type 0 where
   pub stored : Stored kept width old new
-  pub above : kept ≤ node
+  pub from-kept : kept ≤ node
   pub within : node < 2 * width
   pub least-is : least ≡ getD new node 0
   pub inner : (n : ℕ) → kept ≤ n → n < width → n ≢ node / 2 → getD new n 0 ≡ min (getD new (2 * n) 0) (getD new (2 * n + 1) 0)
@@ -161,13 +161,13 @@ module _ (kept width : ℕ) (cells : List ℕ) (slot : ℕ) (s : SegmentTree kep
   removing-slot =
       record {
         stored = stored-slot kept width cells slot FFFF s inside;
-        above = omega (arith, s .within);
+        from-kept = omega (arith, s .within);
         within = omega arith;
         least-is = sym (getD-set-same cells (width + slot) FFFF 0 (omega (arith, s .room)));
         inner = stored-inner kept width cells slot FFFF s inside;
       }
 
-  -- no node stands above the root
+  -- the root has no parent
   pub removing-done : (new : List ℕ) (node least : ℕ) → node < 2 * kept → Removing kept width (set cells (width + slot) FFFF) new node least → Removed kept width cells slot new
   removing-done new node least top r =
       record {
@@ -176,7 +176,7 @@ module _ (kept width : ℕ) (cells : List ℕ) (slot : ℕ) (s : SegmentTree kep
         past = stored-past kept width cells slot FFFF s inside new (r .stored);
       }
 
--- the node above takes the smaller of the node and its sibling
+-- the parent takes the smaller of the node and its sibling
 pub removing-step : (kept width : ℕ) (old new : List ℕ) (node least v : ℕ) → 2 * kept ≤ node → v ≡ min least (getD new (4 * (node / 2) + 1 - node) 0) → Removing kept width old new node least → Removing kept width old (set new (node / 2) v) (node / 2) v
 removing-step kept width old new node least v h v-is r =
     let m : ℕ = node / 2 in
@@ -185,7 +185,7 @@ removing-step kept width old new node least v h v-is r =
     let both : v ≡ min (getD new (2 * m) 0) (getD new (2 * m + 1) 0) = v-is ∙ ap (λ (x : ℕ). min x (getD new (4 * m + 1 - node) 0)) (r .least-is) ∙ siblings new node in
     record {
       stored = stored-node kept width old new m v below (r .stored);
-      above = omega arith;
+      from-kept = omega arith;
       within = omega arith;
       least-is = sym (getD-set-same new m v 0 inside);
       inner = λ n a b other.

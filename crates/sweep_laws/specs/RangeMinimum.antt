@@ -14,11 +14,11 @@ pub record Rounded (left₀ right₀ left right level : ℕ) : Type 0 where
   pub left-is : left ≡ up level left₀
   pub right-is : right ≡ down level right₀
   pub order : left ≤ right
-  pub turns : level + right ≤ right₀
+  pub level-bound : level + right ≤ right₀
 
 pub rounded-first : (left right : ℕ) → left ≤ right → Rounded left right left right 0
 unfolding up down
-rounded-first left right h = record { left-is = refl; right-is = refl; order = h; turns = omega arith }
+rounded-first left right h = record { left-is = refl; right-is = refl; order = h; level-bound = omega arith }
 
 pub rounded-parents : (left₀ right₀ left right level : ℕ) → left < right → Rounded left₀ right₀ left right level → Rounded left₀ right₀ ((left + 1) / 2) (right / 2) (level + 1)
 unfolding up down
@@ -27,7 +27,7 @@ rounded-parents left₀ right₀ left right level h c =
       left-is = rw (add-one level) (ap (λ (n : ℕ). (n + 1) / 2) (c .left-is));
       right-is = rw (add-one level) (ap (λ (n : ℕ). n / 2) (c .right-is));
       order = omega arith;
-      turns = omega (arith, c .turns);
+      level-bound = omega (arith, c .level-bound);
     }
 
 -- a search that has come up to a level, from the nodes left₀ and right₀ to the nodes left and right
@@ -38,13 +38,13 @@ pub record Climbing (kept width : ℕ) (nodes : List ℕ) (left₀ right₀ left
 -- the nodes of a span that is to be searched
 pub record Climbable (kept width : ℕ) (nodes : List ℕ) (left right : ℕ) : Type 0 where
   pub tree : SegmentTree kept width nodes
-  pub above : kept ≤ left
+  pub from-kept : kept ≤ left
   pub order : left ≤ right
   pub within : right ≤ 2 * width
 
 module _ (kept width : ℕ) (nodes : List ℕ) (left₀ right₀ : ℕ) (b : Climbable kept width nodes left₀ right₀) where
   pub climbing-first : Climbing kept width nodes left₀ right₀ left₀ right₀ FFFF 0
-  climbing-first = record { span = narrowed-first kept width nodes left₀ right₀ (b .above) (b .order) (b .within); rounded = rounded-first left₀ right₀ (b .order) }
+  climbing-first = record { span = narrowed-first kept width nodes left₀ right₀ (b .from-kept) (b .order) (b .within); rounded = rounded-first left₀ right₀ (b .order) }
 
   pub climbing-parents : (left right best level : ℕ) → 2 * kept ≤ left → left < right → Climbing kept width nodes left₀ right₀ left right best level → Climbing kept width nodes left₀ right₀ ((left + 1) / 2) (right / 2) (min best (min (nodeAt nodes left) (nodeAt nodes (right - 1)))) (level + 1)
   climbing-parents left right best level below h c =
@@ -61,16 +61,16 @@ pub record Meetable (left right level : ℕ) : Type 0 where
 -- on from a level to where the ends meet
 pub record Meeting (left₀ right₀ level₀ left right level : ℕ) : Type 0 where
   pub order : left ≤ right
-  pub turns : level + right ≤ level₀ + right₀
+  pub level-bound : level + right ≤ level₀ + right₀
   pub rounded : (first last : ℕ) → Rounded first last left₀ right₀ level₀ → Rounded first last left right level
 
 module _ (left₀ right₀ level₀ : ℕ) where
   pub meeting-first : left₀ ≤ right₀ → Meeting left₀ right₀ level₀ left₀ right₀ level₀
-  meeting-first h = record { order = h; turns = omega arith; rounded = λ first last r. r }
+  meeting-first h = record { order = h; level-bound = omega arith; rounded = λ first last r. r }
 
   pub meeting-parents : (left right level : ℕ) → left < right → Meeting left₀ right₀ level₀ left right level → Meeting left₀ right₀ level₀ ((left + 1) / 2) (right / 2) (level + 1)
   meeting-parents left right level h m =
-      record { order = omega arith; turns = omega (arith, m .turns); rounded = λ first last r. rounded-parents first last left right level h (m .rounded first last r) }
+      record { order = omega arith; level-bound = omega (arith, m .level-bound); rounded = λ first last r. rounded-parents first last left right level h (m .rounded first last r) }
 
   pub meeting-met : (left right level : ℕ) → right ≤ left → Meeting left₀ right₀ level₀ left right level → (first last : ℕ) → Rounded first last left₀ right₀ level₀ → Rounded first last left left level
   meeting-met left right level h m first last r = let same : right ≡ left = omega (arith, m .order) in rw same at (m .rounded first last r)
@@ -78,7 +78,7 @@ module _ (left₀ right₀ level₀ : ℕ) where
 -- a search of the slots from `from` up to `to`, that has come to the nodes left and right and on to where the ends meet
 module _ (kept width : ℕ) (nodes : List ℕ) (s : SegmentTree kept width nodes) (from to : ℕ) (some : from < to) (top : to ≤ width) where
   pub slots-climbable : Climbable kept width nodes (width + from) (width + to)
-  slots-climbable = record { tree = s; above = omega (arith, s .within); order = omega arith; within = omega arith }
+  slots-climbable = record { tree = s; from-kept = omega (arith, s .within); order = omega arith; within = omega arith }
 
   module _ (left right best level : ℕ) (c : Climbing kept width nodes (width + from) (width + to) left right best level) where
     -- what is left lies along one level

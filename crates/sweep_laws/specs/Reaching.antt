@@ -9,7 +9,7 @@ use native.Mathlib.Numerals.{add-one}
 use native.Mathlib.Decide.{decLt}
 use lib.ListN.{length, getD, take}
 use lib.Seq.{take-suc}
-use Rattle.tree_laws.specs.Lists.{answers}
+use Rattle.laws.specs.Booleans.{answers}
 use Rattle.schedule.specs.Schedule.{Schedule, slotAt, dueAt}
 use Rattle.schedule.specs.InWork.{slotPart, fromPart, toPart, reachedPart, duePart, treePart}
 use Rattle.sweep_laws.specs.SegmentTree.{entriesIn, insertEntry, Insertable}

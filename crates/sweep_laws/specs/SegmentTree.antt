@@ -1,4 +1,4 @@
--- The segment tree for the smallest place in a span of slots (document 01, "The shelf and its cells"): node n stands above nodes 2n and 2n + 1, slot s at
+-- The segment tree for the smallest place in a span of slots (document 01, "The shelf and its cells"): node n is the parent of nodes 2n and 2n + 1, slot s at
 -- width + s; a node holds the smallest place under it, FFFF for none. The uppermost levels, those in front of node `kept`, are left out. What a tree holds is
 -- told by the plain list of its entries.
 use Prim.Native.Nat.{ℕ, suc, _+_, _*_, _^_, _<_, _≤_, min}

@@ -1,4 +1,4 @@
--- From place to place: each way that a turn can end leaves the sweep at the next place, with the passes made.
+-- From place to place: each way that a step can end leaves the sweep at the next place, with the passes made.
 use Prim.Native.Nat.{ℕ, suc, _+_, _*_, _<_, _≤_}
 use mathlib.Core.Path.{_≡_, refl, sym, _∙_}
 use mathlib.Core.Logic.{_≢_}
@@ -129,7 +129,7 @@ sweeping-past s n kept width i next work next-is idle w =
           (w .waiting);
     }
 
--- ---- a turn, once what is due is reached
+-- ---- a step, once what is due is reached
 
 module _ (s : Schedule) (n level kept width i next passes pairs visits : ℕ) (work : List ℕ) (u : Underway s n level kept width i next passes pairs visits work) (known : i < n)
     (due : ℕ) (work₁ : List ℕ) (r : ReachedAt n kept width i next work due work₁) where
@@ -170,8 +170,8 @@ module _ (s : Schedule) (n level kept width i next passes pairs visits : ℕ) (w
           (less, front-both n work work₁ (opened work₁) less (front-set n work₁ (openerPart * n + passes) i (omega arith)))
 
       -- it is taken
-      pub turn-taken : (mate ≡ FFFF → ⊥) → Underway s n level kept width (i + 1) due passes pairs visits work₁
-      turn-taken other =
+      pub step-taken : (mate ≡ FFFF → ⊥) → Underway s n level kept width (i + 1) due passes pairs visits work₁
+      step-taken other =
           let taken : freeAt n work₁ i ≡ false = unfold freeAt in rw (le-ltb 0 (getD work₁ (toPart * n + i) 0) quiet-cell, ne-eqb (getD work₁ (matePart * n + i) 0) FFFF (λ e. other (mate-is ∙ e))) refl in
           rw add-one
           (record {
@@ -181,8 +181,8 @@ module _ (s : Schedule) (n level kept width i next passes pairs visits : ℕ) (w
           })
 
       -- it runs alone
-      pub turn-alone : mate ≡ FFFF → Underway s n level kept width (i + 1) due (passes + 1) pairs visits (opened work₁)
-      turn-alone e =
+      pub step-alone : mate ≡ FFFF → Underway s n level kept width (i + 1) due (passes + 1) pairs visits (opened work₁)
+      step-alone e =
           let free : freeAt n work₁ i ≡ true = unfold freeAt in rw (le-ltb 0 (getD work₁ (toPart * n + i) 0) quiet-cell, eq-eqb (getD work₁ (matePart * n + i) 0) FFFF (sym mate-is ∙ e)) refl in
           let quiet-at : toAt s i ≡ 0 = omega (arith, w .cells .to-cell i (omega arith) known free, quiet-cell) in
           let unwaiting : Open s n i due work₁ i → ⊥ = λ o. let t = take-place due (s .reached) (o .2) in omega (arith, quiet-at, rw (t .3) at (w .setting .sound .reached-asks (t .0) (t .2))) in
@@ -205,8 +205,8 @@ module _ (s : Schedule) (n level kept width i next passes pairs visits : ℕ) (w
     -- ---- it asks
 
     module _ (some : 0 < to) where
-      pub turn-asking : Asking s n level kept width i due to work₁
-      turn-asking =
+      pub step-asking : Asking s n level kept width i due to work₁
+      step-asking =
           record { sweeping = w; inside = known; next-is = reached .0; to-is = to-is; asks = some; levels-are = u .levels-are }
 
       free-here : freeAt n work₁ i ≡ true
@@ -220,8 +220,8 @@ module _ (s : Schedule) (n level kept width i next passes pairs visits : ℕ) (w
         opener-room = omega (arith, early, c .sweeping .cells .room)
 
         -- one pass more, where the passes made before place i stand still
-        turned : ((k : ℕ) → k < passes → getD work₂ (openerPart * n + k) 0 ≡ getD work₁ (openerPart * n + k) 0) → ((p : ℕ) → p < i → getD work₂ (matePart * n + p) 0 ≡ getD work₁ (matePart * n + p) 0) → (p : Pass) (a : ℕ) → passOf n (opened work₂) i ≡ p → greedy (fits s) (remaining n work₁ i) ≡ p ∷ greedy (fits s) (remaining n (opened work₂) (suc i)) → a ≡ pairCount p → a ≤ 1 → v ≡ visitsOf s p → Underway s n level kept width (i + 1) due (passes + 1) (pairs + a) (visits + v) (opened work₂)
-        turned openers mates p a is turn a-is a-few v-is =
+        step-made : ((k : ℕ) → k < passes → getD work₂ (openerPart * n + k) 0 ≡ getD work₁ (openerPart * n + k) 0) → ((p : ℕ) → p < i → getD work₂ (matePart * n + p) 0 ≡ getD work₁ (matePart * n + p) 0) → (p : Pass) (a : ℕ) → passOf n (opened work₂) i ≡ p → greedy (fits s) (remaining n work₁ i) ≡ p ∷ greedy (fits s) (remaining n (opened work₂) (suc i)) → a ≡ pairCount p → a ≤ 1 → v ≡ visitsOf s p → Underway s n level kept width (i + 1) due (passes + 1) (pairs + a) (visits + v) (opened work₂)
+        step-made openers mates p a is turn a-is a-few v-is =
             record {
               sweeping = next-sweeping;
               made = made-more s n i work₁ passes pairs visits m (opened work₂)
@@ -237,15 +237,15 @@ module _ (s : Schedule) (n level kept width i next passes pairs visits : ℕ) (w
         mate-opened = getD-set-other work₂ (openerPart * n + passes) (matePart * n + i) i 0 (λ e. omega arith)
 
         -- it finds none
-        pub turn-unmatched : q ≡ FFFF → Underway s n level kept width (i + 1) due (passes + 1) pairs (visits + v) (opened work₂)
-        turn-unmatched e =
+        pub step-unmatched : q ≡ FFFF → Underway s n level kept width (i + 1) due (passes + 1) pairs (visits + v) (opened work₂)
+        step-unmatched e =
             let o = c .none-found e in
             let keeps : (y : ℕ) → y < treePart * n → y ≢ matePart * n + i → getD work₂ y 0 ≡ getD work₁ y 0 = λ y h other. o .front .kept y h ∙ getD-set-other work₁ (matePart * n + i) y FFFF 0 other in
             let mate : getD work₂ (matePart * n + i) 0 ≡ FFFF = o .front .kept (matePart * n + i) (omega arith) ∙ getD-set-same work₁ (matePart * n + i) FFFF 0 (omega (arith, room)) in
             let same : remaining n (opened work₂) (suc i) ≡ remaining n work₁ (suc i) = remaining-same n work₁ (opened work₂) (suc i)
             (λ p l h. free-opener s n kept width i due passes i work₂ known early p h ∙ free-kept n (set work₁ (matePart * n + i) FFFF) work₂ (o .front) p h ∙ free-alone n i work₁ FFFF p known h (λ e. omega arith)) in
             rw add-zero at
-            (turned
+            (step-made
             (λ k h. keeps (openerPart * n + k) (omega (arith, early)) (λ e. omega arith))
             (λ y h. keeps (matePart * n + y) (omega arith) (λ e. omega arith))
             (single i) 0
@@ -254,8 +254,8 @@ module _ (s : Schedule) (n level kept width i next passes pairs visits : ℕ) (w
             (pairs-alone i) (omega arith) (c .visits-are ∙ visits-alone s i))
 
         -- it finds a mate
-        pub turn-matched : (q ≡ FFFF → ⊥) → Underway s n level kept width (i + 1) due (passes + 1) (pairs + 1) (visits + v) (opened work₂)
-        turn-matched other =
+        pub step-matched : (q ≡ FFFF → ⊥) → Underway s n level kept width (i + 1) due (passes + 1) (pairs + 1) (visits + v) (opened work₂)
+        step-matched other =
             let o = c .one-found other in
             let inside = o .inside in
             let later = o .later in
@@ -264,7 +264,7 @@ module _ (s : Schedule) (n level kept width i next passes pairs visits : ℕ) (w
             let mate : getD work₂ (matePart * n + i) 0 ≡ q = o .front .kept (matePart * n + i) (omega arith) ∙ mate-of-one n i q work₁ known inside later room few in
             let rest : remaining n (opened work₂) (suc i) ≡ without q (remaining n work₁ (suc i)) = remaining-without n work₁ (opened work₂) (suc i) q
             (λ p l h. free-opener s n kept width i due passes i work₂ known early p h ∙ free-kept n (paired n i q work₁) work₂ (o .front) p h ∙ free-paired n i q work₁ known inside later room few p h (λ e. omega arith)) in
-            turned
+            step-made
             (λ k h. keeps (openerPart * n + k) (omega (arith, early)) (λ e. omega (arith, early)) (λ e. omega (arith, early)) (λ e. omega (arith, early)))
             (λ y h. keeps (matePart * n + y) (omega arith) (λ e. omega arith) (λ e. omega arith) (λ e. omega arith))
             (pair i q) 1
@@ -273,8 +273,8 @@ module _ (s : Schedule) (n level kept width i next passes pairs visits : ℕ) (w
             (pairs-two i q) (omega arith) (c .visits-are ∙ visits-two s i q)
 
         -- the running order stays
-        pub turn-order : FrontKept n work (opened work₂)
-        turn-order =
+        pub step-front : FrontKept n work (opened work₂)
+        step-front =
             let less : FrontKept n work work₁ = front-less n (treePart * n) work work₁ (omega arith) (r .front) in
             let chosen : FrontKept n work₁ work₂ = elim (ℕ-discrete q FFFF) [
               | yes e ↦ front-both n work₁ (set work₁ (matePart * n + i) FFFF) work₂ (front-set n work₁ (matePart * n + i) FFFF (omega arith)) (front-less n (treePart * n) (set work₁ (matePart * n + i) FFFF) work₂ (omega arith) (c .none-found e .front))

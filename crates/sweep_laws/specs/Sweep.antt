@@ -16,8 +16,8 @@ use Rattle.model.specs.Tree.{FFFF}
 use Rattle.model.specs.Greedy.{Pass}
 use Rattle.model.specs.Visits.{levels}
 use Rattle.model.specs.Planning.{pairCount}
-use Rattle.tree_laws.specs.Lists.{mem-all, select-all, range-mem}
-use Rattle.tree_laws.specs.Numbers.{numbers-length}
+use Rattle.laws.specs.Lists.{mem-all, select-all}
+use Rattle.laws.specs.Numbers.{range-mem, numbers-length}
 use Rattle.schedule.specs.Schedule.{Schedule, places, slotAt, fromAt, toAt, dueAt, passesByPlace, totalVisits, visitsOf}
 use Rattle.schedule.specs.InWork.{slotPart, fromPart, toPart, reachedPart, duePart, matePart, treePart, part, scheduleIn, passAt, Swept}
 use Rattle.sweep_laws.specs.SegmentTree.{Clearable, Cleared}

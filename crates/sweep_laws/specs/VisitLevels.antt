@@ -393,12 +393,12 @@ module _ (from to : ℕ) (h : from ≤ to) where
         omega (arith, splits-below (level - k) k node (rw top (omega arith)) (rw top (omega arith)))
   ]
 
-inside-ancestor : (below k x : ℕ) → k ≤ 64 → k - below - trailingZeros (k - below) x ≡ levelsInside below k x
+inside-levels : (below k x : ℕ) → k ≤ 64 → k - below - trailingZeros (k - below) x ≡ levelsInside below k x
 unfolding levelsInside
-inside-ancestor below k x h = omega (arith, zeros-within (k - below) 64 x (omega arith))
+inside-levels below k x h = omega (arith, zeros-within (k - below) 64 x (omega arith))
 
 inside-all : (k x : ℕ) → k ≤ 64 → count k x ≡ levelsInside 0 k x
-inside-all k x h = count-zeros x k ∙ rw (sub-zero k) at (inside-ancestor 0 k x h)
+inside-all k x h = count-zeros x k ∙ rw (sub-zero k) at (inside-levels 0 k x h)
 
 pub inside-small : (k x : ℕ) → levelsInside 0 k x ≤ k
 unfolding levelsInside
@@ -413,7 +413,7 @@ pub record VisitsMet (k from to left right level node : ℕ) : Type 0 where
 pub visits-met : (k from to left right level node : ℕ) → k ≤ 64 → from < to → to ≤ 2 ^ k → left ≡ 2 ^ k + from → right ≡ 2 ^ k + to → node ≡ up level left → node ≡ down level right → VisitsMet k from to left right level node
 visits-met k from to left right level node fits h top l r a b =
     let same : splits k (2 ^ k + from) (2 ^ k + to) ≡ splits k left right = rw (l, r) in
-    let met : splits k left right + levelsInside level k node ≡ count k left + count k right = rw (inside-ancestor level k node fits) at (splits-met left right (omega arith) k level node a b) in
+    let met : splits k left right + levelsInside level k node ≡ count k left + count k right = rw (inside-levels level k node fits) at (splits-met left right (omega arith) k level node a b) in
     let ends : splits k left right + levelsInside level k node ≡ levelsInside 0 k left + levelsInside 0 k right = omega (arith, inside-all k left fits, inside-all k right fits) in
     record {
       twice = omega (arith, ends);

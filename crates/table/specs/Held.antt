@@ -1,23 +1,23 @@
 -- The layouts and jobs held in the cells: none, one more, and all.
 use Prim.Native.Nat.{ℕ, zero, suc, _+_, _-_, _*_, _≤_, _<_}
-use mathlib.Core.Path.{_≡_, refl, sym, ap, _∙_}
-use mathlib.Core.Bool.{Bool, true, false, cond, not}
+use mathlib.Core.Path.{_≡_, refl, sym, _∙_}
+use mathlib.Core.Bool.{true, false, cond}
 use mathlib.Core.List.{List, [], _∷_, _++_}
 use native.Mathlib.Nat.{add-zero, add-suc, suc-add, zero-add}
 use native.Mathlib.Numerals.{add-one}
 use native.Mathlib.Omega.{arith}
 use lib.ListN.{length, take, drop, set, replicate, length-set}
 use lib.Seq.{drop-set-lt, take-suc-set, drop-drop, length-take-le}
-use Rattle.model.specs.Verdict.{Verdict, accepted, refused, refuseIf, _then_}
+use Rattle.model.specs.Verdict.{accepted, refused, _then_}
 use Rattle.model.specs.Tree.{FFFF, layoutLimit, rightParent, layoutsFrom}
-use Rattle.model.specs.Jobs.{Table, jobs, jobLimit}
-use Rattle.model.specs.Table.{lines, withJob, extended, layoutFrame, emptyTable}
+use Rattle.model.specs.Table.{extended}
+use Rattle.model.specs.declared.Refusal.{Refusal}
+use Rattle.laws.specs.Verdicts.{passed}
 use Rattle.table.specs.Unchecked.{halted, unchecked}
-use Rattle.table.specs.Steps.{uncheckedFrom, endedAt, LayoutLine, JobLine, EndLine, Unused, Spare, Room, Roomy, BuffersReady, held, Holds, SoFar, stopVerdict, LinesRead}
+use Rattle.table.specs.Steps.{uncheckedFrom, endedAt, LayoutLine, JobLine, EndLine, Unused, Room, Roomy, BuffersReady, held, SoFar, stopVerdict, LinesRead}
 use Rattle.table.specs.Lines.{no-bytes}
 use Rattle.table.specs.declared.unchecked.Stop.{Stop}
 use Rattle.table.specs.declared.unchecked.Stop.the-variants as stop
-use Rattle.model.specs.declared.Refusal.{Refusal}
 
 -- ---- cells
 
@@ -35,11 +35,6 @@ used-more : (n a : ℕ) (cells : List ℕ) → n < length cells → take (n + 1)
 used-more n a cells h = rw add-one (take-suc-set cells n a h)
 
 -- ---- parents
-
--- no refusal was the first, and none came after it
-passed : (b : Bool) (number place : ℕ) (v : Verdict) → (refuseIf (not b) number place then v) ≡ accepted → (b ≡ true) × (v ≡ accepted)
-passed true number place v e = (refl, e)
-passed false number place v e = (cc, cc)
 
 -- right parents stay right with one more at the end
 layouts-more : (x : ℕ) (ps : List ℕ) (p : ℕ) → layoutsFrom x ps ≡ accepted → rightParent (x + length ps) p ≡ true → layoutsFrom x (ps ++ p ∷ []) ≡ accepted

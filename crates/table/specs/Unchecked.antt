@@ -1,24 +1,24 @@
 -- Reading with the checks of jobs, 5 and 6, put off to the end. The first job that they refuse stands before the line that stopped the reading, so it comes to
 -- the same as reading line by line.
-use Prim.Native.Nat.{ℕ, zero, suc, _+_, _≤_, _<_}
+use Prim.Native.Nat.{ℕ, suc, _+_, _≤_, _<_}
 use mathlib.Core.Path.{_≡_, refl, sym, ap, _∙_}
 use mathlib.Core.Bool.{Bool, true, false, cond, not, _||_}
 use mathlib.Core.Option.{Option, none, some}
-use mathlib.Core.List.{List, [], _∷_, _++_, map, foldr, map-append}
+use mathlib.Core.List.{List, [], _∷_, _++_, map, foldr}
 use native.Mathlib.Omega.{arith}
 use lib.ListN.{length, getD, length-append, List·getD-append}
-use lib.Seq.{getD-append-add}
+use lib.Seq.{getD-at}
 use lib.Dec.{eqb, leb, ltb}
 use borrow.Author.Tests.{lt-ltb, ltb-false}
-use Rattle.model.specs.Lists.{numbers, numbersFrom, All}
+use Rattle.model.specs.Lists.{numbers, numbersFrom}
 use Rattle.model.specs.Verdict.{Verdict, accepted, refused, refuseIf, _then_}
 use Rattle.model.specs.Tree.{ancestorOrSelf}
 use Rattle.model.specs.Jobs.{Table, jobs, jobLimit, top, bottom, jobVerdict}
 use Rattle.model.specs.Planning.{jobsVerdict}
 use Rattle.model.specs.Table.{Reading, read, stopped, Line, lines, layoutFrame, jobFrame, soloFrame, endFrame, frameOf, isEnd, outOfOrder, contentVerdict, frameVerdict, withJob, extended, unlessRefused, readFrame, readLines, emptyTable, readTable}
 use Rattle.model.specs.Table as Format
-use Rattle.tree_laws.specs.Lists.{answers}
-use Rattle.tree_laws.specs.Numbers.{numbers-mem, numbers-length, numbers-at}
+use Rattle.laws.specs.Numbers.{range-more, range-agree}
+use Rattle.laws.specs.Verdicts.{then-append, then-last}
 
 -- where reading stopped: the table so far, whether the end was read, and the refusal, if there is one
 pub record Halted : Type 0 where
@@ -64,32 +64,9 @@ checked s = unlessRefused (onItsLine (length (s .table .parents)) (jobsVerdict (
 
 -- ---- one job more
 
--- verdicts in a row
-then-append : (vs ws : List Verdict) → foldr _then_ accepted (vs ++ ws) ≡ (foldr _then_ accepted vs then foldr _then_ accepted ws)
-then-append [] ws = refl
-then-append (accepted ∷ vs) ws = then-append vs ws
-then-append (refused number place ∷ vs) ws = refl
-
-numbers-more : (a n : ℕ) → numbersFrom a (suc n) ≡ numbersFrom a n ++ (a + n) ∷ []
-unfolding numbersFrom
-numbers-more a zero = let same : a + 0 ≡ a = omega arith in rw same refl
-numbers-more a (suc n) = let same : suc a + n ≡ a + suc n = omega arith in ap (λ (l : List ℕ). a ∷ l) (numbers-more (suc a) n ∙ rw same refl)
-
-map-agree : (f g : ℕ → Verdict) (a n : ℕ) → ((j : ℕ) → j < a + n → f j ≡ g j) → map f (numbersFrom a n) ≡ map g (numbersFrom a n)
-unfolding numbersFrom
-map-agree f g a zero h = refl
-map-agree f g a (suc n) h = rw (h a (omega arith), map-agree f g (suc a) n (λ j l. h j (omega arith))) refl
-
-then-accepted-last : (v : Verdict) → (v then accepted) ≡ v
-then-accepted-last accepted = refl
-then-accepted-last (refused number place) = refl
-
 module _ (tb : Table) (t b mark : ℕ) (even : length (tb .bottoms) ≡ jobs tb) where
   job-same : (j : ℕ) → j < jobs tb → jobVerdict (tb .parents) (getD (tb .tops ++ t ∷ []) j 0) (getD (tb .bottoms ++ b ∷ []) j 0) j ≡ jobVerdict (tb .parents) (top tb j) (bottom tb j) j
   job-same j h = rw (List·getD-append (tb .tops) (t ∷ []) 0 j h, List·getD-append (tb .bottoms) (b ∷ []) 0 j (omega arith)) refl
-
-  last-of : (l : List ℕ) (x n : ℕ) → length l ≡ n → getD (l ++ x ∷ []) n 0 ≡ x
-  last-of l x n e = let at : length l + 0 ≡ n = omega arith in rw (← at) (getD-append-add l (x ∷ []) 0 0)
 
   -- the checks of the table with one job more end with the check of that job
   pub jobs-more : jobsVerdict (withJob tb t b mark) ≡ (jobsVerdict tb then jobVerdict (tb .parents) t b (jobs tb))
@@ -99,13 +76,12 @@ module _ (tb : Table) (t b mark : ℕ) (even : length (tb .bottoms) ≡ jobs tb)
       let check : ℕ → Verdict = λ (j : ℕ). jobVerdict (tb .parents) (top new j) (bottom new j) j in
       let longer : length (tb .tops ++ t ∷ []) ≡ suc (jobs tb) = rw (length-append (tb .tops) (t ∷ [])) (omega arith) in
       ap (λ (n : ℕ). foldr _then_ accepted (map check (numbersFrom 0 n))) longer
-      ∙ ap (λ (l : List ℕ). foldr _then_ accepted (map check l)) (numbers-more 0 (jobs tb))
-      ∙ ap (foldr _then_ accepted) (map-append check (numbersFrom 0 (jobs tb)) ((0 + jobs tb) ∷ []))
+      ∙ ap (foldr _then_ accepted) (range-more check 0 (jobs tb))
       ∙ then-append (map check (numbersFrom 0 (jobs tb))) (check (0 + jobs tb) ∷ [])
-      ∙ rw (map-agree check (λ (j : ℕ). jobVerdict (tb .parents) (top tb j) (bottom tb j) j) 0 (jobs tb) (λ j h. job-same j (omega arith)), then-accepted-last (check (0 + jobs tb))) (last-job (0 + jobs tb) (omega arith))
+      ∙ rw (range-agree check (λ (j : ℕ). jobVerdict (tb .parents) (top tb j) (bottom tb j) j) 0 (jobs tb) (λ j l h. job-same j (omega arith)), then-last (check (0 + jobs tb))) (last-job (0 + jobs tb) (omega arith))
     where
       last-job : (n : ℕ) → n ≡ jobs tb → (jobsVerdict tb then jobVerdict (tb .parents) (getD (tb .tops ++ t ∷ []) n 0) (getD (tb .bottoms ++ b ∷ []) n 0) n) ≡ (jobsVerdict tb then jobVerdict (tb .parents) t b (jobs tb))
-      last-job n e = rw (last-of (tb .tops) t n (sym e), last-of (tb .bottoms) b n (even ∙ sym e), e) refl
+      last-job n e = rw (getD-at (tb .tops) t [] 0 n (sym e), getD-at (tb .bottoms) b [] 0 n (even ∙ sym e), e) refl
 
 -- ---- the checks put off
 

@@ -20,7 +20,9 @@ use Rattle.model.specs.declared.Refusal.{Refusal}
 use Rattle.model.specs.declared.Counts.{Counts}
 use Rattle.model.specs.declared.TableRead.{TableRead}
 use Rattle.model.specs.declared.TableRead.the-variants.{Read, Refused}
-use Rattle.tree_laws.specs.Numbers.{numbers-mem}
+use Rattle.laws.specs.Numbers.{numbers-mem}
+use Rattle.laws.specs.Verdicts.{not-refused}
+use Rattle.laws.specs.Booleans.{or-false-both}
 use Rattle.tree_laws.specs.WellFormed.{Tree, well-formed}
 use Rattle.settle.specs.Spanned.{Spanned}
 use Rattle.jobs.specs.Accepted.{Accepted, table-accepted}
@@ -28,7 +30,7 @@ use Rattle.jobs.specs.Checks.{checkVerdict, JobsChecked}
 use Rattle.jobs.specs.declared.JobCheck.{JobCheck}
 use Rattle.jobs.specs.declared.JobCheck.the-variants as check
 use Rattle.table.specs.Unchecked.{onItsLine, checked, read-checked}
-use Rattle.table.specs.Steps.{Unused, Spare, Room, Roomy, BuffersReady, held, Holds, stopVerdict, LinesRead}
+use Rattle.table.specs.Steps.{Unused, Spare, Roomy, BuffersReady, held, Holds, stopVerdict, LinesRead}
 use Rattle.table.specs.declared.unchecked.Stop.{Stop}
 
 -- ---- the lines
@@ -144,14 +146,6 @@ long-roomy bytes parents tops bottoms marks b =
       marks-room = λ m h k. omega (arith, b .marks-long);
     }
 
-no-ground : (g : Bool) (number place : ℕ) → refuseIf g number place ≡ accepted → g ≡ false
-no-ground false number place e = refl
-no-ground true number place e = cc
-
-neither : (a b : Bool) → (a || b) ≡ false → (a ≡ false) × (b ≡ false)
-neither false b e = (refl, e)
-neither true b e = (e, cc)
-
 pub sizes-accepted : (parents tops bottoms marks : List ℕ) → buffersVerdict (length parents) (length tops) (length bottoms) (length marks) ≡ accepted
     → BuffersLong parents tops bottoms marks
 unfolding buffersVerdict
@@ -160,9 +154,9 @@ sizes-accepted parents tops bottoms marks e =
     let t = ltb (length tops) jobLimit in
     let b = ltb (length bottoms) jobLimit in
     let m = ltb (length marks) jobLimit in
-    let four = neither (p || t || b) m (no-ground (p || t || b || m) 8 0 e) in
-    let three = neither (p || t) b (four .0) in
-    let two = neither p t (three .0) in
+    let four = or-false-both (p || t || b) m (not-refused (p || t || b || m) 8 0 e) in
+    let three = or-false-both (p || t) b (four .0) in
+    let two = or-false-both p t (three .0) in
     record {
       parents-long = ltb-false (length parents) layoutLimit (two .0);
       tops-long = ltb-false (length tops) jobLimit (two .1);

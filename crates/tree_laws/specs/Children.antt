@@ -1,19 +1,18 @@
 -- The children of a layout: which they are, in which order they stand, and what lies below them.
--- Assumes nothing.
 use Prim.Native.Nat.{ℕ, zero, suc, _≤_, _<_}
 use mathlib.Core.Path.{_≡_, refl, sym, ap, _∙_}
 use mathlib.Core.Logic.{_⊎_, inl, inr, ⊎-elim}
-use mathlib.Core.List.{List, [], _∷_, _++_, List·Memᴰ as Mem, List·Memᴰ·head as here, List·Memᴰ·not-nil as not-nil, List·Memᴰ·cases-cons as mem-cons, List·Memᴰ·append-cases as mem-append}
-use native.Mathlib.Decide.{decLe}
+use mathlib.Core.List.{List, [], _∷_, _++_, List·Memᴰ as Mem}
 use native.Mathlib.Omega.{arith}
 use lib.ListN.{length, getD}
 use lib.Dec.{eqb}
 use borrow.Author.Tests.{eqb-true, eq-eqb}
 use Rattle.model.specs.Lists.{numbers, AllPairs}
 use Rattle.model.specs.Tree.{FFFF, depth, children}
-use Rattle.tree_laws.specs.Lists.{getD-inside, all-mem, mem-range, range-mem, range-rises, select-mem, mem-select, select-pairwise, pairwise-right, pairwise-across}
+use Rattle.laws.specs.Lists.{getD-inside, all-mem, select-mem, mem-select, select-pairwise, pairwise-right}
+use Rattle.laws.specs.Numbers.{mem-range, range-mem, range-rises}
 use Rattle.tree_laws.specs.WellFormed.{Tree}
-use Rattle.tree_laws.specs.Chain.{AncestorOrSelf, self, up, ancestor-trans, ancestor-same, depth-child}
+use Rattle.tree_laws.specs.Ancestors.{AncestorOrSelf, self, up, ancestor-trans, ancestor-same, depth-child}
 
 module _ (ps : List ℕ) (t : Tree ps) where
   -- a child of x is a layout after the first whose parent is x
@@ -54,40 +53,9 @@ module _ (ps : List ℕ) (t : Tree ps) where
     rises : AllPairs _<_ (done ++ c ∷ rest)
     rises = rw e at (children-rise x)
 
-    -- the children in front of c are smaller, and those behind it greater
-    pub done-smaller : {y : ℕ} → Mem y done → y < c
-    done-smaller {y} m = pairwise-across _<_ done (c ∷ rest) rises y c m (here refl)
-
+    -- the children behind c are greater
     pub rest-greater : {y : ℕ} → Mem y rest → c < y
     rest-greater {y} m = all-mem (λ (y : ℕ). c < y) (pairwise-right _<_ done (c ∷ rest) rises .0) m
-
-    -- the children greater than c are those behind it
-    pub greater-rest : {y : ℕ} → Mem y (children ps x) → c < y → Mem y rest
-    greater-rest {y} m l = ⊎-elim
-        (λ (m : Mem y done). absurd (omega (arith, done-smaller m)))
-        (λ (m : Mem y (c ∷ rest)). ⊎-elim (λ (e : y ≡ c). absurd (omega arith)) (λ (m : Mem y rest). m) (mem-cons m))
-        (mem-append done (rw e at m))
-
-    -- and the smaller ones those in front
-    pub smaller-done : {y : ℕ} → Mem y (children ps x) → y < c → Mem y done
-    smaller-done {y} m l = ⊎-elim
-        (λ (m : Mem y done). m)
-        (λ (m : Mem y (c ∷ rest)). ⊎-elim (λ (e : y ≡ c). absurd (omega arith)) (λ (m : Mem y rest). absurd (omega (arith, rest-greater m))) (mem-cons m))
-        (mem-append done (rw e at m))
-
-  -- the first child greater than c is the one behind it
-  pub next-child : (x : ℕ) (done : List ℕ) (c d : ℕ) (rest : List ℕ) → children ps x ≡ done ++ c ∷ d ∷ rest → {y : ℕ} → Mem y (children ps x) → c < y → d ≤ y
-  next-child x done c d rest e {y} m l = ⊎-elim
-      (λ (same : y ≡ d). omega arith)
-      (λ (m : Mem y rest). omega (arith, all-mem (λ (y : ℕ). d < y) (pairwise-right _<_ done (c ∷ d ∷ rest) (rises x done c (d ∷ rest) e) .1 .0) m))
-      (mem-cons (greater-rest x done c (d ∷ rest) e m l))
-
-  -- where nothing is behind c, no child is greater
-  pub last-child : (x : ℕ) (done : List ℕ) (c : ℕ) → children ps x ≡ done ++ c ∷ [] → {y : ℕ} → Mem y (children ps x) → y ≤ c
-  last-child x done c e {y} m = elim (decLe y c) [
-    | yes h ↦ h
-    | no n ↦ absurd (not-nil (greater-rest x done c [] e m (omega arith)))
-  ]
 
   -- ---- what lies below them
 
@@ -99,14 +67,14 @@ module _ (ps : List ℕ) (t : Tree ps) where
       (λ (r : (c : ℕ) × (Mem c (children ps x) × AncestorOrSelf ps c (getD ps y 0))). inr (r .0, (r .1 .0, up k (r .1 .1))))
       (ancestor-child (omega (arith, t .smaller y k)) a)
 
-  -- a parent is above its child
+  -- a parent is an ancestor of its child
   pub parent-ancestor : {x c : ℕ} → x < length ps → Mem c (children ps x) → AncestorOrSelf ps x c
   parent-ancestor {x} {c} h m = let k = child-parent h m in up {u = x} {x = c} (k .2) (rw (k .1) self)
 
-  -- and above all that the child is above
+  -- and of all that the child is an ancestor of
   pub child-ancestor : {x c y : ℕ} → x < length ps → Mem c (children ps x) → AncestorOrSelf ps c y → AncestorOrSelf ps x y
   child-ancestor h m a = ancestor-trans ps t (parent-ancestor h m) a
 
-  -- two children above one layout are one: they have the same depth
+  -- two children that are ancestors of one layout are one: they have the same depth
   pub child-unique : {x c d y : ℕ} → x < length ps → Mem c (children ps x) → Mem d (children ps x) → AncestorOrSelf ps c y → AncestorOrSelf ps d y → c ≡ d
   child-unique h m n a b = ancestor-same ps t a b (child-depth h m ∙ sym (child-depth h n))

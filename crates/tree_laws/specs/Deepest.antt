@@ -1,5 +1,4 @@
 -- The deepest layout on both paths of two jobs that share, on which the pair prints (document 01, "The tree and the running order").
--- Assumes nothing.
 use Prim.Native.Nat.{ℕ}
 use mathlib.Core.Path.{_≡_}
 use mathlib.Core.Bool.{true}
@@ -11,12 +10,12 @@ use lib.ListN.{getD}
 use Rattle.model.specs.Lists.{elem, AllPairs}
 use Rattle.model.specs.Tree.{FFFF, depth}
 use Rattle.model.specs.Jobs.{Table, bottom, pathFrom, path, shares, deepestShared}
-use Rattle.tree_laws.specs.Lists.{mem-all, mem-elem, elem-mem, any-mem, select-mem, mem-select, select-pairwise, head-mem, head-first}
+use Rattle.laws.specs.Lists.{mem-all, mem-elem, elem-mem, any-mem, select-mem, mem-select, select-pairwise, head-mem, head-first}
 use Rattle.tree_laws.specs.WellFormed.{Tree}
-use Rattle.tree_laws.specs.Chain.{AncestorOrSelf, self, up, ancestor-trans, ancestor-linear}
+use Rattle.tree_laws.specs.Ancestors.{AncestorOrSelf, self, up, ancestor-trans, ancestor-linear}
 use Rattle.tree_laws.specs.Sharing.{path-one, path-up, path-ancestor, ancestor-path, Downward, On}
 
--- a path leads up: each later layout is above each earlier
+-- a path leads up: each later layout is an ancestor of each earlier
 module _ (ps : List ℕ) (t : Tree ps) where
   path-rises : {u b : ℕ} → AncestorOrSelf ps u b → AllPairs (λ (x y : ℕ). AncestorOrSelf ps y x) (pathFrom ps u b)
   path-rises (self {x = b}) = rw (path-one ps t b) (tt, tt)
@@ -34,7 +33,7 @@ module _ (tb : Table) (t : Tree (tb .parents)) where
       let q = path-ancestor (tb .parents) t (deepestShared tb i j) b (s .1) in
       (record { lower = p .0; upper = p .1 }, record { lower = q .0; upper = q .1 })
 
-  -- every layout on both paths is above it: of those it is the first that the path of i has
+  -- every layout on both paths is an ancestor of it: of those it is the first that the path of i has
   pub deepest-below : {x : ℕ} (i j : ℕ) → On tb x i → On tb x j → AncestorOrSelf (tb .parents) x (deepestShared tb i j)
   unfolding deepestShared path
   deepest-below {x} i j p q =
@@ -45,7 +44,7 @@ module _ (tb : Table) (t : Tree (tb .parents)) where
       let rises = select-pairwise (λ (x : ℕ). elem x (path tb j)) (λ (x y : ℕ). AncestorOrSelf ps y x) (path tb i) (path-rises ps t a) in
       ⊎-elim (λ (e : x ≡ deepestShared tb i j). rw e self) (λ h. h) (head-first (λ (x y : ℕ). AncestorOrSelf ps y x) FFFF rises both)
 
-  -- and so is every layout above both bottoms: if it were below the deepest shared one, it would lie on both paths
+  -- and so is every common ancestor of the bottoms: if it were below the deepest shared one, it would lie on both paths
   pub deepest-common : {x : ℕ} (i j : ℕ) → Downward tb i → Downward tb j → shares tb i j ≡ true
       → AncestorOrSelf (tb .parents) x (bottom tb i) → AncestorOrSelf (tb .parents) x (bottom tb j) → AncestorOrSelf (tb .parents) x (deepestShared tb i j)
   deepest-common {x} i j a b e p q = elim (decLe (depth ps x) (depth ps deepest)) [

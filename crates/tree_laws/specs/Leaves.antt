@@ -1,16 +1,14 @@
 -- The leaves of a layout and the numbers of its first and its last leaf.
--- Assumes nothing.
 use Prim.Native.Nat.{ℕ, zero, suc, _+_, _≤_, _<_}
 use mathlib.Core.Path.{_≡_, refl, sym, ap, _∙_}
 use mathlib.Core.Logic.{_⊎_, inl, inr, ⊎-elim}
 use mathlib.Core.List.{List, [], _∷_, _++_, flatMap, append-assoc, append-nil, List·Memᴰ as Mem, List·Memᴰ·eq-of-singleton as mem-one}
-use native.Mathlib.Decide.{decLe}
 use native.Mathlib.Omega.{arith}
 use lib.ListN.{length, getD, length-append}
-use Rattle.model.specs.Tree.{children, orSelf, leavesWithin, leaves, firstLeaf, lastLeaf, depth}
-use Rattle.tree_laws.specs.Lists.{Distinct, pairwise-imply, mem-all, mem-split, flat-mem, flat-agree, flat-append, flat-distinct, first-place, last-place, distinct-bound}
+use Rattle.model.specs.Tree.{children, orSelf, leavesWithin, leaves, firstLeaf, lastLeaf}
+use Rattle.laws.specs.Lists.{Distinct, pairwise-imply, mem-all, mem-split, flat-mem, flat-agree, flat-append, flat-distinct, first-place, last-place, distinct-bound}
 use Rattle.tree_laws.specs.WellFormed.{Tree}
-use Rattle.tree_laws.specs.Chain.{AncestorOrSelf, self, up, ancestor-root, ancestor-linear}
+use Rattle.tree_laws.specs.Ancestors.{AncestorOrSelf, self, up, ancestor-root}
 use Rattle.tree_laws.specs.Children.{child-parent, parent-child, child-greater, child-ancestor, child-unique, children-rise}
 
 -- ---- `orSelf`: a layout's own leaf, where its children have none
@@ -90,17 +88,7 @@ module _ (ps : List ℕ) (t : Tree ps) where
           of-child : (c : ℕ) × (Mem c (children ps x) × Mem l (leaves ps c)) → AncestorOrSelf ps x l × (l < length ps)
           of-child r = let below = ih (r .0) (r .1 .0) l (r .1 .1) in (child-ancestor ps t h (r .1 .0) (below .0), below .1)
 
-  -- layouts neither of which is above the other have no leaf in common: two layouts above one leaf are on one chain
-  pub leaves-apart : (u v : ℕ) → u < length ps → v < length ps → (AncestorOrSelf ps u v → ⊥) → (AncestorOrSelf ps v u → ⊥) → (l : ℕ) → Mem l (leaves ps u) → Mem l (leaves ps v) → ⊥
-  leaves-apart u v h k nuv nvu l m n =
-      let a = leaf-ancestor u h l m .0 in
-      let b = leaf-ancestor v k l n .0 in
-      elim (decLe (depth ps u) (depth ps v)) [
-        | yes d ↦ nuv (ancestor-linear ps t a b d)
-        | no d ↦ nvu (ancestor-linear ps t b a (omega arith))
-      ]
-
-  -- no leaf of x stands twice: two children have no leaf in common, as only one of them is above it
+  -- no leaf of x stands twice: two children have no leaf in common, as only one of them is an ancestor of it
   pub leaves-distinct : (x : ℕ) → x < length ps → Distinct (leaves ps x)
   leaves-distinct = tree-induction (λ (x : ℕ). Distinct (leaves ps x)) step
     where
@@ -134,7 +122,7 @@ module _ (ps : List ℕ) (t : Tree ps) where
       flat-length [] k = k
       flat-length (c ∷ l) k = simp length-append (omega (arith, leaves-nonempty ps c))
 
-  -- the leaves of a layout above x hold those of x in one piece: climb, and at each child split its parent's
+  -- the leaves of an ancestor of x hold those of x in one piece: go up, and at each child split its parent's
   pub part-of : {u x : ℕ} → x < length ps → AncestorOrSelf ps u x → (before : List ℕ) × (after : List ℕ) × (leaves ps u ≡ before ++ (leaves ps x ++ after))
   part-of h (self {x = x}) = ([], [], sym (append-nil (leaves ps x)))
   part-of {u} h (up {x = x} k a) =

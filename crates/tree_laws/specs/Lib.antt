@@ -1,8 +1,6 @@
 -- Laws of the tree of layouts, after document 01's "The tree and the running order".
-pub mod Lists
-pub mod Numbers
 pub mod WellFormed
-pub mod Chain
+pub mod Ancestors
 pub mod Children
 pub mod Leaves
 pub mod Spans

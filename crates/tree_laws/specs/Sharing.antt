@@ -1,5 +1,4 @@
 -- Which jobs share (document 01, "The tree and the running order"; 000, Theorem 6 and Appendix B), for jobs whose bottom is at or below their top.
--- Assumes nothing.
 use Prim.Native.Nat.{ℕ, zero, suc, _≤_, _<_}
 use mathlib.Core.Path.{_≡_, refl, sym, _∙_}
 use mathlib.Core.Bool.{true, _&&_, or-false}
@@ -14,9 +13,10 @@ use borrow.Author.Tests.{eqb-true, eq-eqb, ne-eqb}
 use Rattle.model.specs.Lists.{elem}
 use Rattle.model.specs.Tree.{depth, firstLeaf, lastLeaf}
 use Rattle.model.specs.Jobs.{Table, top, bottom, upTo, pathFrom, path, shares, topDepth, bottomLeaf}
-use Rattle.tree_laws.specs.Lists.{same-test, or-cases, or-right, elem-mem, mem-elem, any-mem, mem-any}
+use Rattle.laws.specs.Booleans.{same-test, or-cases, or-right}
+use Rattle.laws.specs.Lists.{elem-mem, mem-elem, any-mem, mem-any}
 use Rattle.tree_laws.specs.WellFormed.{Tree}
-use Rattle.tree_laws.specs.Chain.{AncestorOrSelf, self, up, ancestors-root, ancestors-child, ancestor-trans, ancestor-cases, ancestor-le, ancestor-linear}
+use Rattle.tree_laws.specs.Ancestors.{AncestorOrSelf, self, up, ancestors-root, ancestors-child, ancestor-trans, ancestor-cases, ancestor-le, ancestor-linear}
 use Rattle.tree_laws.specs.Spans.{InSpan, inSpan, in-span-true, true-in-span, ancestor-span, span-ancestor}
 
 module _ (ps : List ℕ) (t : Tree ps) where
@@ -30,7 +30,7 @@ module _ (ps : List ℕ) (t : Tree ps) where
   unfolding pathFrom upTo
   path-up u b h a = rw (ancestors-child ps t b h, ne-eqb b u (λ e. omega (arith, ancestor-le ps t a, t .smaller b h)))
 
-  -- what lies on the path from b up to u is above b and below u, or one of them: the path is the chain of b, cut off after u
+  -- what lies on the path from b up to u is an ancestor of b and a descendant of u, or one of them: the path is the ancestors of b up to u
   pub path-ancestor : (x : ℕ) {u b : ℕ} → AncestorOrSelf ps u b → elem x (pathFrom ps u b) ≡ true → AncestorOrSelf ps x b × AncestorOrSelf ps u x
   unfolding elem
   path-ancestor x (self {x = b}) e =
@@ -50,7 +50,7 @@ module _ (ps : List ℕ) (t : Tree ps) where
       (λ (r : (0 < b) × AncestorOrSelf ps x (getD ps b 0)). or-right (eqb x b) (elem x (pathFrom ps u (getD ps b 0))) (ancestor-path a (r .1) upper))
       (ancestor-cases ps t below))
 
-  -- x lies on the path from b up to u exactly if it is above b and u is above it
+  -- x lies on the path from b up to u exactly if it is an ancestor of b and u is one of it
   pub on-path : (x : ℕ) {u b : ℕ} → AncestorOrSelf ps u b → (elem x (pathFrom ps u b) ≡ true) ↔ (AncestorOrSelf ps x b × AncestorOrSelf ps u x)
   on-path x a = (path-ancestor x a, λ h. ancestor-path a (h .0) (h .1))
 
@@ -72,10 +72,10 @@ pub record Passes (tb : Table) (j i : ℕ) : Type 0 where
 -- two jobs share one way round as they do the other: a layout on both paths is on both
 pub shares-symmetric : (tb : Table) (i j : ℕ) → shares tb i j ≡ shares tb j i
 unfolding shares
-shares-symmetric tb i j = same-test (shares tb i j) (shares tb j i) (turned i j) (turned j i)
+shares-symmetric tb i j = same-test (shares tb i j) (shares tb j i) (shares-back i j) (shares-back j i)
   where
-    turned : (i j : ℕ) → shares tb i j ≡ true → shares tb j i ≡ true
-    turned i j e =
+    shares-back : (i j : ℕ) → shares tb i j ≡ true → shares tb j i ≡ true
+    shares-back i j e =
         let r = any-mem (λ (x : ℕ). elem x (path tb j)) (path tb i) e in
         mem-any (λ (x : ℕ). elem x (path tb i)) (elem-mem (r .0) (path tb j) (r .1 .1)) (mem-elem (r .1 .0))
 
@@ -102,7 +102,7 @@ module _ (tb : Table) (t : Tree (tb .parents)) where
   top-on : (i : ℕ) → Downward tb i → On tb (top tb i) i
   top-on i a = record { lower = a; upper = self }
 
-  -- where two paths meet, the deeper top lies on the path of the other: both tops are above the layout where they meet
+  -- where two paths meet, the deeper top lies on the path of the other: both tops are ancestors of the layout where they meet
   pub meet-top : {z : ℕ} (i j : ℕ) → On tb z i → On tb z j → topDepth tb j ≤ topDepth tb i → On tb (top tb i) j
   unfolding topDepth
   meet-top i j p q d = record { lower = ancestor-trans (tb .parents) t (p .upper) (q .lower); upper = ancestor-linear (tb .parents) t (q .upper) (p .upper) d }

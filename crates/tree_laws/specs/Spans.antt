@@ -1,5 +1,4 @@
--- The span of a layout, from its first leaf to its last: nested along a chain, disjoint at one depth; and by it the test for "above".
--- Assumes nothing.
+-- The span of a layout, from its first leaf to its last: nested from ancestor to descendant, disjoint at one depth; and by it the test for ancestors.
 use Prim.Native.Nat.{ℕ, suc, _+_, _≤_, _<_, max}
 use mathlib.Core.Path.{_≡_, ap, _∙_}
 use mathlib.Core.Bool.{Bool, true, _&&_, and-eq-true-iff}
@@ -11,9 +10,10 @@ use lib.ListN.{length, getD, length-append}
 use lib.Dec.{leb}
 use borrow.Author.Tests.{leb-true, le-leb}
 use Rattle.model.specs.Tree.{ancestorOrSelf, depth, leaves, firstLeaf, lastLeaf}
-use Rattle.tree_laws.specs.Lists.{piece-mem, same-test}
+use Rattle.laws.specs.Lists.{piece-mem}
+use Rattle.laws.specs.Booleans.{same-test}
 use Rattle.tree_laws.specs.WellFormed.{Tree}
-use Rattle.tree_laws.specs.Chain.{AncestorOrSelf, self, ancestor-le, ancestor-depth, ancestor-linear, ancestor-same, ancestor-true, true-ancestor}
+use Rattle.tree_laws.specs.Ancestors.{AncestorOrSelf, self, ancestor-le, ancestor-depth, ancestor-linear, ancestor-same, ancestor-true, true-ancestor}
 use Rattle.tree_laws.specs.Leaves.{leaves-nonempty, leaf-ancestor, part-of, segment, first-at, last-at, last-is}
 
 -- leaf number k lies in the span of x
@@ -40,7 +40,7 @@ module _ (ps : List ℕ) (t : Tree ps) where
   pub first-le-last : (x : ℕ) → x < length ps → firstLeaf ps x ≤ lastLeaf ps x
   first-le-last x h = omega (arith, last-is ps t x h, leaves-nonempty ps x)
 
-  -- the span of a layout lies in that of each layout above it, as its leaves are a piece of the other's
+  -- the span of a layout lies in that of each ancestor, as its leaves are a piece of the other's
   pub nested : {u x : ℕ} → x < length ps → AncestorOrSelf ps u x → (firstLeaf ps u ≤ firstLeaf ps x) × (lastLeaf ps x ≤ lastLeaf ps u)
   nested {u} {x} h a =
       let s = segment ps t u (omega (arith, ancestor-le ps t a)) in
@@ -56,7 +56,7 @@ module _ (ps : List ℕ) (t : Tree ps) where
   span-leaf : {k x : ℕ} → x < length ps → InSpan ps k x → Mem (getD (leaves ps 0) k 0) (leaves ps x)
   span-leaf {k} {x} h i = let s = segment ps t x h in rw (s .2) (piece-mem (s .0) (leaves ps x) (s .1) k 0 (omega arith) (omega (arith, last-is ps t x h)))
 
-  -- two spans that meet are of layouts above one another, as their depths say: both are above the leaf that they share
+  -- two spans that meet are of an ancestor and a descendant, as their depths say: both are ancestors of the leaf that they share
   pub spans-meet : {k u x : ℕ} → u < length ps → x < length ps → InSpan ps k u → InSpan ps k x → depth ps u ≤ depth ps x → AncestorOrSelf ps u x
   spans-meet {k} {u} {x} h j i i′ d =
       let leaf : ℕ = getD (leaves ps 0) k 0 in
@@ -82,15 +82,15 @@ module _ (ps : List ℕ) (t : Tree ps) where
       both-x : ¬ (lastLeaf ps u < firstLeaf ps x) → ¬ (lastLeaf ps x < firstLeaf ps u) → InSpan ps (max (firstLeaf ps u) (firstLeaf ps x)) x
       both-x meet meet′ = record { first = omega arith; last = omega (arith, first-le-last x j) }
 
-  -- (A) what is above x has the first leaf of x in its span and is no deeper
+  -- (A) an ancestor of x has the first leaf of x in its span and is no deeper
   pub ancestor-span : {u x : ℕ} → x < length ps → AncestorOrSelf ps u x → InSpan ps (firstLeaf ps x) u × (depth ps u ≤ depth ps x)
   ancestor-span {u} {x} h a = (record { first = nested h a .0; last = omega (arith, nested h a .1, first-le-last x h) }, ancestor-depth ps t a)
 
-  -- and what has is above x: its span and that of x meet
+  -- and what has is an ancestor of x: its span and that of x meet
   pub span-ancestor : {u x : ℕ} → u < length ps → x < length ps → InSpan ps (firstLeaf ps x) u → depth ps u ≤ depth ps x → AncestorOrSelf ps u x
   span-ancestor {u} {x} h j i d = spans-meet h j i (record { first = omega arith; last = first-le-last x j }) d
 
-  -- (A) as an equation of tests: u is above x exactly if the first leaf of x lies in the span of u and u is no deeper
+  -- (A) as an equation of tests: u is an ancestor of x exactly if the first leaf of x lies in the span of u and u is no deeper
   pub ancestor-test : (u x : ℕ) → u < length ps → x < length ps
       → ancestorOrSelf ps u x ≡ (leb (firstLeaf ps u) (firstLeaf ps x) && leb (firstLeaf ps x) (lastLeaf ps u) && leb (depth ps u) (depth ps x))
   ancestor-test u x h j = same-test (ancestorOrSelf ps u x) (inSpan ps (firstLeaf ps x) u (depth ps u) (depth ps x))
@@ -103,7 +103,7 @@ module _ (ps : List ℕ) (t : Tree ps) where
   pub one-first-leaf : {u x : ℕ} → u < length ps → x < length ps → firstLeaf ps u ≡ firstLeaf ps x → depth ps u ≤ depth ps x → AncestorOrSelf ps u x
   one-first-leaf {u} {x} h j e d = span-ancestor h j (record { first = omega arith; last = omega (arith, first-le-last u h) }) d
 
-  -- what is above x, and has leaves as far as the first one of y, which lies further right than that of x, is above y: y is not above it, as that would put the first leaf of y left of that of x
+  -- an ancestor of x that has leaves as far as the first one of y, which lies further right than that of x, is one of y: y is no ancestor of it, as that would put the first leaf of y left of that of x
   pub reaching-ancestor : {u x y : ℕ} → x < length ps → y < length ps → firstLeaf ps x < firstLeaf ps y → AncestorOrSelf ps u x → firstLeaf ps y ≤ lastLeaf ps u → AncestorOrSelf ps u y
   reaching-ancestor {u} {x} {y} h j right a reach =
       let known : u < length ps = omega (arith, ancestor-le ps t a) in

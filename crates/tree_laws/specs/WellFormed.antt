@@ -1,16 +1,16 @@
 -- What an accepted list of parents has: layout 0 at its head, and for each later layout a parent with a smaller number.
--- Assumes nothing.
 use Prim.Native.Nat.{ℕ, zero, suc, _+_, _≤_, _<_}
-use mathlib.Core.Path.{_≡_, refl}
-use mathlib.Core.Bool.{Bool, true, false, not}
+use mathlib.Core.Path.{_≡_}
+use mathlib.Core.Bool.{true}
 use mathlib.Core.List.{List, [], _∷_}
 use native.Mathlib.Nat.{zero-add, add-zero, suc-add, add-suc}
 use native.Mathlib.Decide.{decLt}
 use native.Mathlib.Omega.{arith}
 use lib.ListN.{length, getD, List·getD-eq-default}
 use borrow.Author.Tests.{ltb-true, eqb-true}
-use Rattle.model.specs.Verdict.{Verdict, accepted, refuseIf, _then_}
+use Rattle.model.specs.Verdict.{accepted, _then_}
 use Rattle.model.specs.Tree.{FFFF, layoutLimit, rightParent, layoutsFrom, treeVerdict}
+use Rattle.laws.specs.Verdicts.{passed}
 
 -- a list of parents that is a tree. Past the end `getD` gives 0, so `smaller` holds of every number
 pub record Tree (ps : List ℕ) : Type 0 where
@@ -18,11 +18,6 @@ pub record Tree (ps : List ℕ) : Type 0 where
   pub root : getD ps 0 0 ≡ FFFF
   pub smaller : (x : ℕ) → 0 < x → getD ps x 0 < x
   pub small : length ps ≤ layoutLimit
-
--- no refusal was the first, and none came after it
-passed : (b : Bool) (number place : ℕ) (v : Verdict) → (refuseIf (not b) number place then v) ≡ accepted → (b ≡ true) × (v ≡ accepted)
-passed true number place v e = (refl, e)
-passed false number place v e = (cc, cc)
 
 -- every layout has a right parent: the first has, and so have the rest
 right-parents : (x : ℕ) (ps : List ℕ) → layoutsFrom x ps ≡ accepted → (i : ℕ) → i < length ps → rightParent (x + i) (getD ps i 0) ≡ true

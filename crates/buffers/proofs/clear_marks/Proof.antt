@@ -1,5 +1,4 @@
--- `cells::clear_marks` meets its contract: the cells passed hold the value, the others are as they were.
--- Assumes nothing.
+-- `buffers::clear_marks` meets its contract: the cells passed hold the value, the others are as they were.
 use borrow.Author.Needs.{needs}
 use Prim.Native.Nat.{_-_}
 use lib.ListN.{length}

@@ -1,5 +1,4 @@
 -- `frame::ends_after` meets its contract: 0A stands only within the bytes.
--- Assumes nothing.
 use mathlib.Core.Path.{refl, sym}
 use native.Mathlib.Omega.{arith}
 use borrow.Author.Tests.{ne-eqb}

@@ -1,5 +1,4 @@
 -- `frame::field` meets its contract: the four digits are added up by their places.
--- Assumes nothing.
 use borrow.Author.Needs.{needs}
 use Rattle.frame.proofs.Digits.{field-read}
 use Rattle.frame.proofs.field.Statement.{statement}

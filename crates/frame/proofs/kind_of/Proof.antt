@@ -1,5 +1,4 @@
 -- `frame::kind_of` meets its contract: after '0' the second byte tells the kind, and one below '0' tells none.
--- Assumes nothing.
 use Prim.Native.Nat.{_-_}
 use mathlib.Core.Path.{_≡_, subst}
 use native.Mathlib.Omega.{arith}

@@ -1,5 +1,4 @@
 -- `frame::long_frame` meets its contract: of the lines that end after 10 bytes those of kind 2, 4 and 3 with right fields are frames.
--- Assumes nothing.
 use mathlib.Core.Path.{_≡_}
 use native.Mathlib.Omega.{arith}
 use borrow.Author.Tests.{ne-eqb}

@@ -1,5 +1,4 @@
 -- `frame::read_frame` meets its contract: a frame's line ends after 6 or 10 bytes.
--- Assumes nothing.
 use Prim.Native.Nat.{ℕ, _-_}
 use mathlib.Core.Path.{_≡_, refl, sym, _∙_}
 use mathlib.Core.List.{List, []}

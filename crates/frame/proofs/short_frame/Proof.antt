@@ -1,5 +1,4 @@
 -- `frame::short_frame` meets its contract: of the lines that end after 6 bytes those of kind 1 with a right field are frames.
--- Assumes nothing.
 use native.Mathlib.Omega.{arith}
 use borrow.Author.Tests.{ne-eqb}
 use borrow.Author.Needs.{needs}

@@ -1,5 +1,5 @@
 -- `harness::copy_leading` meets its contract. The loop's invariant: `i` is within both lists, and the first `i` cells of `to` hold those of
--- `from`. The measure is what is left of `from`. Assumes nothing.
+-- `from`. The measure is what is left of `from`.
 use mathlib.Core.Path.{_≡_, refl, sym, ap, _∙_}
 use mathlib.Core.List.{List, [], _∷_, _++_}
 use Prim.Native.Nat.{ℕ, zero, suc, _≤_, _<_, _-_, _+_}

@@ -1,5 +1,4 @@
 -- `harness::harness_stretch` meets its contract: the numbers copied are those of the stretch.
--- Assumes nothing.
 use mathlib.Core.Path.{ap, _∙_}
 use mathlib.Core.List.{List}
 use Prim.Native.Nat.{ℕ}
@@ -23,8 +22,8 @@ returns c =
     let stretch = c .before .before .before .before in
     let out = stretch .before .before .before .before .args .out .now in
     record {
-      counted = ap length (stretch .shared-stretch .ensures .numbers);
-      out-holds = c .before .before .copy-leading .ensures ∙ ap (λ (l : List ℕ). copied l out) (stretch .shared-stretch .ensures .numbers);
+      counted = ap length (stretch .shared-stretch .ensures .holds);
+      out-holds = c .before .before .copy-leading .ensures ∙ ap (λ (l : List ℕ). copied l out) (stretch .shared-stretch .ensures .holds);
     }
 
 pub harness-stretch-spec : {M : Type 1} → statement M

@@ -1,5 +1,4 @@
 -- `harness::packed_read` meets its contract: each arm returns what `packedRead` says of its case.
--- Assumes nothing.
 use mathlib.Core.Path.{sym, ap, _∙_}
 use Prim.Native.Nat.{ℕ, _*_}
 use Rattle.harness.specs.Packed.{packedRead}

@@ -1,5 +1,4 @@
 -- `harness::packed_settled` meets its contract: each arm returns what `packedSettled` says of its case.
--- Assumes nothing.
 use mathlib.Core.Path.{sym, ap, _∙_}
 use Rattle.harness.specs.Packed.{packedSettled}
 use borrow.Author.Needs.{needs}

@@ -1,5 +1,5 @@
 -- `agreement` answers the longest leading part that both lists share: the numbers walked agree, so their count and the agreement of what
--- remains make the agreement of the whole lists. The measure is what is left of the length. Assumes nothing.
+-- remains make the agreement of the whole lists. The measure is what is left of the length.
 use Prim.Native.Nat.{_+_, _-_}
 use mathlib.Core.Path.{_≡_}
 use borrow.Author.Needs.{needs}

@@ -8,9 +8,9 @@ use borrow.Rule.Slice.PartAt.{part-to-end}
 use denote.Ref.{now}
 use lib.ListN.{length, getD, drop}
 use Rattle.model.specs.Stretch.{agreement}
-use Rattle.stretch.specs.StretchLaws.{indexOf-le}
 use Rattle.stretch.proofs.Laws.{leading-none, leading-from}
 use Rattle.stretch.proofs.leading.Statement.{statement}
+use Rattle.laws.specs.Places.{index-le}
 use Rattle.stretch.proofs.leading.Tie as tie
 
 returns : tie.Need-returns
@@ -28,7 +28,7 @@ position-of-requires c κs = search needs
 within : (c : tie.After-position-of) → c .position-of .result ≤ length (now (c .before .before .before .before .before .args .other))
 within c =
     let args = c .before .before .before .before .before .args in
-    rw (c .position-of .ensures) (indexOf-le (getD (now (args .list)) 0 0) (now (args .other)))
+    rw (c .position-of .ensures) (index-le (getD (now (args .list)) 0 0) (now (args .other)))
 
 mul-agreement : tie.Need-mul-agreement
 mul-agreement c = omega (arith, within c)

@@ -1,5 +1,5 @@
 -- `shared_stretch` answers the stretch: a count above 0 says that the first number of its list stands in the other, so the two counts pick
--- the case of the definition, and each answer is cut from the list that the case names. Assumes nothing.
+-- the case of the definition, and each answer is cut from the list that the case names.
 use Prim.Native.Nat.{_<_}
 use mathlib.Core.Path.{_≡_, refl, sym, ap, _∙_}
 use native.Mathlib.Omega.{arith}

@@ -1,7 +1,7 @@
--- Each way that the turn can end leaves the sweep at the next place.
+-- Each way that the step can end leaves the sweep at the next place.
 use borrow.Author.Needs.{needs}
 use native.Mathlib.Omega.{arith}
-use Rattle.sweep_laws.specs.Steps.{turn-asking, opener-room, turn-order, turn-unmatched, turn-matched, quiet-order, turn-taken, turn-alone}
+use Rattle.sweep_laws.specs.Steps.{step-asking, opener-room, step-front, step-unmatched, step-matched, quiet-order, step-taken, step-alone}
 use Rattle.sweep.proofs.step.Statement.{statement}
 use Rattle.sweep.proofs.step.Tie as tie
 
@@ -12,16 +12,16 @@ to-at-requires : tie.Need-to-at-requires
 to-at-requires c κs = let p = c .before .before .before .before .before .before .pre in omega (arith, p .1, p .2 .sweeping .cells .room, c .before .before .before .insert-reached .ensures .front .same)
 
 match-place-requires : tie.Need-match-place-requires
-match-place-requires c κs = let p = c .before .before .before .before .before .before .before .before .before .pre in (p .0, _, turn-asking _ _ _ _ _ _ _ _ _ _ _ (p .2) (p .1) _ _ (c .before .before .before .before .before .before .insert-reached .ensures) _ (c .before .before .to-at .ensures) (c .before .if1 .taken))
+match-place-requires c κs = let p = c .before .before .before .before .before .before .before .before .before .pre in (p .0, _, step-asking _ _ _ _ _ _ _ _ _ _ _ (p .2) (p .1) _ _ (c .before .before .before .before .before .before .insert-reached .ensures) _ (c .before .before .to-at .ensures) (c .before .if1 .taken))
 
 set-opener-requires : tie.Need-set-opener-requires
-set-opener-requires c κs = let p = c .before .before .before .before .before .before .before .before .before .before .before .before .before .pre in opener-room _ _ _ _ _ _ _ _ _ _ _ (p .2) (p .1) _ _ (c .before .before .before .before .before .before .before .before .before .before .insert-reached .ensures) _ (c .before .before .before .before .before .before .to-at .ensures) (c .before .before .before .before .before .if1 .taken) _ _ _ (c .before .before .before .match-place .ensures _ _ (turn-asking _ _ _ _ _ _ _ _ _ _ _ (p .2) (p .1) _ _ (c .before .before .before .before .before .before .before .before .before .before .insert-reached .ensures) _ (c .before .before .before .before .before .before .to-at .ensures) (c .before .before .before .before .before .if1 .taken)))
+set-opener-requires c κs = let p = c .before .before .before .before .before .before .before .before .before .before .before .before .before .pre in opener-room _ _ _ _ _ _ _ _ _ _ _ (p .2) (p .1) _ _ (c .before .before .before .before .before .before .before .before .before .before .insert-reached .ensures) _ (c .before .before .before .before .before .before .to-at .ensures) (c .before .before .before .before .before .if1 .taken) _ _ _ (c .before .before .before .match-place .ensures _ _ (step-asking _ _ _ _ _ _ _ _ _ _ _ (p .2) (p .1) _ _ (c .before .before .before .before .before .before .before .before .before .before .insert-reached .ensures) _ (c .before .before .before .before .before .before .to-at .ensures) (c .before .before .before .before .before .if1 .taken)))
 
 add-t24 : tie.Need-add-t24
 add-t24 c = search needs
 
 add-t25 : tie.Need-add-t25
-add-t25 c = let p = c .before .before .before .before .before .before .before .before .before .before .before .before .before .before .before .before .before .before .before .pre in omega (arith, p .1, p .2 .made .few-visits, p .2 .made .few-pairs, p .2 .made .few-passes, p .2 .sweeping .setting .few, (c .before .before .before .before .before .before .before .before .before .match-place .ensures _ _ (turn-asking _ _ _ _ _ _ _ _ _ _ _ (p .2) (p .1) _ _ (c .before .before .before .before .before .before .before .before .before .before .before .before .before .before .before .before .insert-reached .ensures) _ (c .before .before .before .before .before .before .before .before .before .before .before .before .to-at .ensures) (c .before .before .before .before .before .before .before .before .before .before .before .if1 .taken))) .few-visits)
+add-t25 c = let p = c .before .before .before .before .before .before .before .before .before .before .before .before .before .before .before .before .before .before .before .pre in omega (arith, p .1, p .2 .made .few-visits, p .2 .made .few-pairs, p .2 .made .few-passes, p .2 .sweeping .setting .few, (c .before .before .before .before .before .before .before .before .before .match-place .ensures _ _ (step-asking _ _ _ _ _ _ _ _ _ _ _ (p .2) (p .1) _ _ (c .before .before .before .before .before .before .before .before .before .before .before .before .before .before .before .before .insert-reached .ensures) _ (c .before .before .before .before .before .before .before .before .before .before .before .before .to-at .ensures) (c .before .before .before .before .before .before .before .before .before .before .before .if1 .taken))) .few-visits)
 
 same-length : tie.Need-same-length
 same-length c = search needs
@@ -30,8 +30,8 @@ returns : tie.Need-returns
 returns c =
     let p = c .before .before .before .before .before .before .before .before .before .before .before .before .before .before .before .before .before .before .before .pre in
     record {
-      order = rw (c .before .before .before .before .before .set-opener .ensures) (turn-order _ _ _ _ _ _ _ _ _ _ _ (p .2) (p .1) _ _ (c .before .before .before .before .before .before .before .before .before .before .before .before .before .before .before .before .insert-reached .ensures) _ (c .before .before .before .before .before .before .before .before .before .before .before .before .to-at .ensures) (c .before .before .before .before .before .before .before .before .before .before .before .if1 .taken) _ _ _ (c .before .before .before .before .before .before .before .before .before .match-place .ensures _ _ (turn-asking _ _ _ _ _ _ _ _ _ _ _ (p .2) (p .1) _ _ (c .before .before .before .before .before .before .before .before .before .before .before .before .before .before .before .before .insert-reached .ensures) _ (c .before .before .before .before .before .before .before .before .before .before .before .before .to-at .ensures) (c .before .before .before .before .before .before .before .before .before .before .before .if1 .taken))));
-      stepped = λ s u. rw (c .before .before .before .before .before .set-opener .ensures) (turn-unmatched _ _ _ _ _ _ _ _ _ _ _ u (p .1) _ _ (c .before .before .before .before .before .before .before .before .before .before .before .before .before .before .before .before .insert-reached .ensures) _ (c .before .before .before .before .before .before .before .before .before .before .before .before .to-at .ensures) (c .before .before .before .before .before .before .before .before .before .before .before .if1 .taken) _ _ _ (c .before .before .before .before .before .before .before .before .before .match-place .ensures _ _ (turn-asking _ _ _ _ _ _ _ _ _ _ _ u (p .1) _ _ (c .before .before .before .before .before .before .before .before .before .before .before .before .before .before .before .before .insert-reached .ensures) _ (c .before .before .before .before .before .before .before .before .before .before .before .before .to-at .ensures) (c .before .before .before .before .before .before .before .before .before .before .before .if1 .taken))) (c .before .if2 .taken));
+      order = rw (c .before .before .before .before .before .set-opener .ensures) (step-front _ _ _ _ _ _ _ _ _ _ _ (p .2) (p .1) _ _ (c .before .before .before .before .before .before .before .before .before .before .before .before .before .before .before .before .insert-reached .ensures) _ (c .before .before .before .before .before .before .before .before .before .before .before .before .to-at .ensures) (c .before .before .before .before .before .before .before .before .before .before .before .if1 .taken) _ _ _ (c .before .before .before .before .before .before .before .before .before .match-place .ensures _ _ (step-asking _ _ _ _ _ _ _ _ _ _ _ (p .2) (p .1) _ _ (c .before .before .before .before .before .before .before .before .before .before .before .before .before .before .before .before .insert-reached .ensures) _ (c .before .before .before .before .before .before .before .before .before .before .before .before .to-at .ensures) (c .before .before .before .before .before .before .before .before .before .before .before .if1 .taken))));
+      stepped = λ s u. rw (c .before .before .before .before .before .set-opener .ensures) (step-unmatched _ _ _ _ _ _ _ _ _ _ _ u (p .1) _ _ (c .before .before .before .before .before .before .before .before .before .before .before .before .before .before .before .before .insert-reached .ensures) _ (c .before .before .before .before .before .before .before .before .before .before .before .before .to-at .ensures) (c .before .before .before .before .before .before .before .before .before .before .before .if1 .taken) _ _ _ (c .before .before .before .before .before .before .before .before .before .match-place .ensures _ _ (step-asking _ _ _ _ _ _ _ _ _ _ _ u (p .1) _ _ (c .before .before .before .before .before .before .before .before .before .before .before .before .before .before .before .before .insert-reached .ensures) _ (c .before .before .before .before .before .before .before .before .before .before .before .before .to-at .ensures) (c .before .before .before .before .before .before .before .before .before .before .before .if1 .taken))) (c .before .if2 .taken));
     }
 
 add-t26 : tie.Need-add-t26
@@ -41,7 +41,7 @@ add-t27 : tie.Need-add-t27
 add-t27 c = search needs
 
 add-t28 : tie.Need-add-t28
-add-t28 c = let p = c .before .before .before .before .before .before .before .before .before .before .before .before .before .before .before .before .before .before .before .pre in omega (arith, p .1, p .2 .made .few-visits, p .2 .made .few-pairs, p .2 .made .few-passes, p .2 .sweeping .setting .few, (c .before .before .before .before .before .before .before .before .before .match-place .ensures _ _ (turn-asking _ _ _ _ _ _ _ _ _ _ _ (p .2) (p .1) _ _ (c .before .before .before .before .before .before .before .before .before .before .before .before .before .before .before .before .insert-reached .ensures) _ (c .before .before .before .before .before .before .before .before .before .before .before .before .to-at .ensures) (c .before .before .before .before .before .before .before .before .before .before .before .if1 .taken))) .few-visits)
+add-t28 c = let p = c .before .before .before .before .before .before .before .before .before .before .before .before .before .before .before .before .before .before .before .pre in omega (arith, p .1, p .2 .made .few-visits, p .2 .made .few-pairs, p .2 .made .few-passes, p .2 .sweeping .setting .few, (c .before .before .before .before .before .before .before .before .before .match-place .ensures _ _ (step-asking _ _ _ _ _ _ _ _ _ _ _ (p .2) (p .1) _ _ (c .before .before .before .before .before .before .before .before .before .before .before .before .before .before .before .before .insert-reached .ensures) _ (c .before .before .before .before .before .before .before .before .before .before .before .before .to-at .ensures) (c .before .before .before .before .before .before .before .before .before .before .before .if1 .taken))) .few-visits)
 
 same-length-2 : tie.Need-same-length-2
 same-length-2 c = search needs
@@ -50,8 +50,8 @@ returns-2 : tie.Need-returns-2
 returns-2 c =
     let p = c .before .before .before .before .before .before .before .before .before .before .before .before .before .before .before .before .before .before .before .pre in
     record {
-      order = rw (c .before .before .before .before .before .set-opener .ensures) (turn-order _ _ _ _ _ _ _ _ _ _ _ (p .2) (p .1) _ _ (c .before .before .before .before .before .before .before .before .before .before .before .before .before .before .before .before .insert-reached .ensures) _ (c .before .before .before .before .before .before .before .before .before .before .before .before .to-at .ensures) (c .before .before .before .before .before .before .before .before .before .before .before .if1 .taken) _ _ _ (c .before .before .before .before .before .before .before .before .before .match-place .ensures _ _ (turn-asking _ _ _ _ _ _ _ _ _ _ _ (p .2) (p .1) _ _ (c .before .before .before .before .before .before .before .before .before .before .before .before .before .before .before .before .insert-reached .ensures) _ (c .before .before .before .before .before .before .before .before .before .before .before .before .to-at .ensures) (c .before .before .before .before .before .before .before .before .before .before .before .if1 .taken))));
-      stepped = λ s u. rw (c .before .before .before .before .before .set-opener .ensures) (turn-matched _ _ _ _ _ _ _ _ _ _ _ u (p .1) _ _ (c .before .before .before .before .before .before .before .before .before .before .before .before .before .before .before .before .insert-reached .ensures) _ (c .before .before .before .before .before .before .before .before .before .before .before .before .to-at .ensures) (c .before .before .before .before .before .before .before .before .before .before .before .if1 .taken) _ _ _ (c .before .before .before .before .before .before .before .before .before .match-place .ensures _ _ (turn-asking _ _ _ _ _ _ _ _ _ _ _ u (p .1) _ _ (c .before .before .before .before .before .before .before .before .before .before .before .before .before .before .before .before .insert-reached .ensures) _ (c .before .before .before .before .before .before .before .before .before .before .before .before .to-at .ensures) (c .before .before .before .before .before .before .before .before .before .before .before .if1 .taken))) (c .before .if2 .left));
+      order = rw (c .before .before .before .before .before .set-opener .ensures) (step-front _ _ _ _ _ _ _ _ _ _ _ (p .2) (p .1) _ _ (c .before .before .before .before .before .before .before .before .before .before .before .before .before .before .before .before .insert-reached .ensures) _ (c .before .before .before .before .before .before .before .before .before .before .before .before .to-at .ensures) (c .before .before .before .before .before .before .before .before .before .before .before .if1 .taken) _ _ _ (c .before .before .before .before .before .before .before .before .before .match-place .ensures _ _ (step-asking _ _ _ _ _ _ _ _ _ _ _ (p .2) (p .1) _ _ (c .before .before .before .before .before .before .before .before .before .before .before .before .before .before .before .before .insert-reached .ensures) _ (c .before .before .before .before .before .before .before .before .before .before .before .before .to-at .ensures) (c .before .before .before .before .before .before .before .before .before .before .before .if1 .taken))));
+      stepped = λ s u. rw (c .before .before .before .before .before .set-opener .ensures) (step-matched _ _ _ _ _ _ _ _ _ _ _ u (p .1) _ _ (c .before .before .before .before .before .before .before .before .before .before .before .before .before .before .before .before .insert-reached .ensures) _ (c .before .before .before .before .before .before .before .before .before .before .before .before .to-at .ensures) (c .before .before .before .before .before .before .before .before .before .before .before .if1 .taken) _ _ _ (c .before .before .before .before .before .before .before .before .before .match-place .ensures _ _ (step-asking _ _ _ _ _ _ _ _ _ _ _ u (p .1) _ _ (c .before .before .before .before .before .before .before .before .before .before .before .before .before .before .before .before .insert-reached .ensures) _ (c .before .before .before .before .before .before .before .before .before .before .before .before .to-at .ensures) (c .before .before .before .before .before .before .before .before .before .before .before .if1 .taken))) (c .before .if2 .left));
     }
 
 mate-at-requires : tie.Need-mate-at-requires
@@ -65,7 +65,7 @@ returns-3 c =
     let p = c .before .before .before .before .before .before .before .before .before .before .before .before .pre in
     record {
       order = (quiet-order _ _ _ _ _ _ _ _ _ _ _ (p .2) (p .1) _ _ (c .before .before .before .before .before .before .before .before .before .insert-reached .ensures) _ (c .before .before .before .before .before .to-at .ensures) (c .before .before .before .before .if1 .left) _ (c .before .before .mate-at .ensures) .0);
-      stepped = λ s u. (turn-taken _ _ _ _ _ _ _ _ _ _ _ u (p .1) _ _ (c .before .before .before .before .before .before .before .before .before .insert-reached .ensures) _ (c .before .before .before .before .before .to-at .ensures) (c .before .before .before .before .if1 .left) _ (c .before .before .mate-at .ensures) (c .if3 .taken));
+      stepped = λ s u. (step-taken _ _ _ _ _ _ _ _ _ _ _ u (p .1) _ _ (c .before .before .before .before .before .before .before .before .before .insert-reached .ensures) _ (c .before .before .before .before .before .to-at .ensures) (c .before .before .before .before .if1 .left) _ (c .before .before .mate-at .ensures) (c .if3 .taken));
     }
 
 set-opener-requires-2 : tie.Need-set-opener-requires-2
@@ -82,7 +82,7 @@ returns-4 c =
     let p = c .before .before .before .before .before .before .before .before .before .before .before .before .before .before .before .before .pre in
     record {
       order = rw (c .before .before .set-opener2 .ensures) (quiet-order _ _ _ _ _ _ _ _ _ _ _ (p .2) (p .1) _ _ (c .before .before .before .before .before .before .before .before .before .before .before .before .before .insert-reached .ensures) _ (c .before .before .before .before .before .before .before .before .before .to-at .ensures) (c .before .before .before .before .before .before .before .before .if1 .left) _ (c .before .before .before .before .before .before .mate-at .ensures) .1);
-      stepped = λ s u. rw (c .before .before .set-opener2 .ensures) (turn-alone _ _ _ _ _ _ _ _ _ _ _ u (p .1) _ _ (c .before .before .before .before .before .before .before .before .before .before .before .before .before .insert-reached .ensures) _ (c .before .before .before .before .before .before .before .before .before .to-at .ensures) (c .before .before .before .before .before .before .before .before .if1 .left) _ (c .before .before .before .before .before .before .mate-at .ensures) (c .before .before .before .before .if3 .left));
+      stepped = λ s u. rw (c .before .before .set-opener2 .ensures) (step-alone _ _ _ _ _ _ _ _ _ _ _ u (p .1) _ _ (c .before .before .before .before .before .before .before .before .before .before .before .before .before .insert-reached .ensures) _ (c .before .before .before .before .before .before .before .before .before .to-at .ensures) (c .before .before .before .before .before .before .before .before .if1 .left) _ (c .before .before .before .before .before .before .mate-at .ensures) (c .before .before .before .before .if3 .left));
     }
 
 pub step-spec : {M : Type 1} → statement M

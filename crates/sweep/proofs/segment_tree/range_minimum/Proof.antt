@@ -63,7 +63,7 @@ along-requires c κs = omega (arith, c .narrow .ensures .span .within, c .before
 meet-at-requires : tie.Need-meet-at-requires
 meet-at-requires c κs =
     let start = c .before .before .before .before .before .before .before .before in
-    record { order = c .before .narrow .ensures .rounded .order; fits = omega (arith, c .before .narrow .ensures .rounded .turns, start .pre .tree .room, start .pre .inside, start .good .0 .0) }
+    record { order = c .before .narrow .ensures .rounded .order; fits = omega (arith, c .before .narrow .ensures .rounded .level-bound, start .pre .tree .room, start .pre .inside, start .good .0 .0) }
 
 levels-inside-requires-3 : tie.Need-levels-inside-requires-3
 levels-inside-requires-3 c κs = search needs

@@ -1,4 +1,4 @@
--- On the way up each inner node is right but the one above the node at hand.
+-- On the way up each inner node is right but the parent of the node at hand.
 use borrow.Author.Needs.{needs}
 use native.Mathlib.Omega.{arith}
 use mathlib.Core.Path.{_∙_}

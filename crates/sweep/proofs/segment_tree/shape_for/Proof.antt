@@ -1,7 +1,8 @@
 -- While the width is too small, the levels are those of the definition one level further on.
 use native.Mathlib.Omega.{arith}
 use Prim.Native.Nat.{_-_}
-use Rattle.sweep_laws.specs.Levels.{LevelsTo, levels-begin, levels-room, levels-step, levels-found, levels-least}
+use Rattle.sweep_laws.specs.Levels.{LevelsTo, levels-begin, levels-room, levels-step, levels-found}
+use Rattle.laws.specs.Levels.{levels-least}
 use Rattle.sweep.proofs.segment_tree.shape_for.Statement.{statement}
 use Rattle.sweep.proofs.segment_tree.shape_for.Tie as tie
 

@@ -1,29 +1,38 @@
--- Plain laws of lists of numbers that the laws of the tree are proved with: members, selections, ranges. Nothing here is of document 01.
--- Assumes nothing.
+-- Plain laws of lists: members, earlier and later ones, selections, lists made member by member, lists without repeats, the first that passes.
 use Prim.Native.Nat.{ℕ, zero, suc, _+_, _≤_, _<_}
 use mathlib.Core.Path.{_≡_, refl, sym, ap, _∙_, subst}
-use mathlib.Core.Bool.{Bool, true, false, not, _||_, false≢true}
+use mathlib.Core.Bool.{Bool, true, false, not, _||_, true≢false, false≢true}
 use mathlib.Core.Logic.{_⊎_, inl, inr, ⊎-elim, _≢_}
-use mathlib.Core.List.{List, [], _∷_, _++_, flatMap, headD, append-assoc, List·Memᴰ as Mem, List·Memᴰ·head as here, List·Memᴰ·tail as there, List·Memᴰ·not-nil as not-nil, List·Memᴰ·cases-cons as mem-cons}
-use mathlib.Core.List.{Memᴰ·append-right as mem-right, Memᴰ·cast as mem-cast, List·Memᴰ·append-cases as mem-append}
-use native.Mathlib.Nat.{eq-or-lt-of-le}
+use mathlib.Core.Option.{Option, none, some}
+use mathlib.Core.List.{List, [], _∷_, _++_, map, flatMap, headD, append-assoc, append-nil, List·Memᴰ as Mem, List·Memᴰ·head as here, List·Memᴰ·tail as there, List·Memᴰ·not-nil as not-nil, List·Memᴰ·cases-cons as mem-cons, Memᴰ·append-right as mem-right, Memᴰ·cast as mem-cast, List·Memᴰ·append-cases as mem-append}
 use native.Mathlib.Omega.{arith}
 use lib.ListN.{length, getD, length-append, List·getD-append}
 use lib.Dec.{eqb}
 use borrow.Author.Tests.{eqb-true, eqb-false, eq-eqb, ne-eqb, not-true, not-false}
-use Rattle.model.specs.Lists.{numbersFrom, indexOf, lastD, elem, anyOf, select, All, AllPairs}
+use Rattle.model.specs.Lists.{indexOf, lastD, elem, anyOf, select, find, total, All, AllPairs}
+use Rattle.laws.specs.Booleans.{answers, or-cases, or-right}
 
 -- ---- members
 
--- what holds of all holds of a member
-pub all-mem : (P : ℕ → Type 0) {y : ℕ} {l : List ℕ} → All P l → Mem y l → P y
-all-mem P a (here {x = x} {xs = xs} e) = subst P (sym e) (a .0)
-all-mem P a (there {x = x} {xs = xs} m) = all-mem P (a .1) m
+module _ {A : Type 0} where
+  -- what holds of all holds of a member
+  pub all-mem : (P : A → Type 0) {y : A} {l : List A} → All P l → Mem y l → P y
+  all-mem P a (here {x = x} {xs = xs} e) = subst P (sym e) (a .0)
+  all-mem P a (there {x = x} {xs = xs} m) = all-mem P (a .1) m
 
--- what holds of every member holds of all
-pub mem-all : (P : ℕ → Type 0) (l : List ℕ) → ((y : ℕ) → Mem y l → P y) → All P l
-mem-all P [] f = tt
-mem-all P (x ∷ xs) f = (f x (here refl), mem-all P xs (λ y m. f y (there m)))
+  -- what holds of every member holds of all
+  pub mem-all : (P : A → Type 0) (l : List A) → ((y : A) → Mem y l → P y) → All P l
+  mem-all P [] f = tt
+  mem-all P (x ∷ xs) f = (f x (here refl), mem-all P xs (λ y m. f y (there m)))
+
+  -- and so does what follows from it
+  pub all-imply : (P Q : A → Type 0) (l : List A) → ((x : A) → P x → Q x) → All P l → All Q l
+  all-imply P Q [] f a = tt
+  all-imply P Q (x ∷ xs) f a = (f x (a .0), all-imply P Q xs f (a .1))
+
+-- a member other than the first is among the rest
+pub mem-rest : {x y : ℕ} {l : List ℕ} → Mem x (y ∷ l) → x ≢ y → Mem x l
+mem-rest m h = ⊎-elim (λ e. absurd (h e)) (λ m. m) (mem-cons m)
 
 -- a member stands somewhere: what is before it, and what is after it
 pub mem-split : {y : ℕ} {l : List ℕ} → Mem y l → (done : List ℕ) × (rest : List ℕ) × (l ≡ done ++ y ∷ rest)
@@ -80,25 +89,32 @@ pairwise-imply R S [] f p = tt
 pairwise-imply R S (x ∷ xs) f p =
     (mem-all (S x) xs (λ y m. f x y (here refl) (there m) (all-mem (R x) (p .0) m)), pairwise-imply R S xs (λ y z m n. f y z (there m) (there n)) (p .1))
 
+-- ---- what f makes of the members
+
+-- what f makes of the members has what they have by way of f
+pub map-all : {A B : Type 0} (f : A → B) (P : B → Type 0) (l : List A) → All (λ (x : A). P (f x)) l → All P (map f l)
+map-all f P [] a = tt
+map-all f P (x ∷ xs) a = (a .0, map-all f P xs (a .1))
+
+-- and keeps what holds of earlier and later ones by way of f
+pub map-pairwise : {A B : Type 0} (f : A → B) (R : B → B → Type 0) (l : List A) → AllPairs (λ (x y : A). R (f x) (f y)) l → AllPairs R (map f l)
+map-pairwise f R [] a = tt
+map-pairwise f R (x ∷ xs) a = (map-all f (R (f x)) xs (a .0), map-pairwise f R xs (a .1))
+
 -- ---- selections
 
--- a test answers one or the other
-pub answers : (b : Bool) → (b ≡ true) ⊎ (b ≡ false)
-answers true = inl refl
-answers false = inr refl
-
-module _ (p : ℕ → Bool) where
+module _ {A : Type 0} (p : A → Bool) where
   -- one step of a selection, by the test's answer
-  pub select-yes : (x : ℕ) (xs : List ℕ) → p x ≡ true → select p (x ∷ xs) ≡ x ∷ select p xs
+  pub select-yes : (x : A) (xs : List A) → p x ≡ true → select p (x ∷ xs) ≡ x ∷ select p xs
   unfolding select
   select-yes x xs e = rw e
 
-  pub select-no : (x : ℕ) (xs : List ℕ) → p x ≡ false → select p (x ∷ xs) ≡ select p xs
+  pub select-no : (x : A) (xs : List A) → p x ≡ false → select p (x ∷ xs) ≡ select p xs
   unfolding select
   select-no x xs e = rw e
 
   -- what is selected stood in the list and passed
-  pub select-mem : {y : ℕ} (l : List ℕ) → Mem y (select p l) → Mem y l × (p y ≡ true)
+  pub select-mem : {y : A} (l : List A) → Mem y (select p l) → Mem y l × (p y ≡ true)
   unfolding select
   select-mem [] m = absurd (not-nil m)
   select-mem {y} (x ∷ xs) m = ⊎-elim
@@ -110,7 +126,7 @@ module _ (p : ℕ → Bool) where
       later s = (there (s .0), s .1)
 
   -- what stands in the list and passes is selected
-  pub mem-select : {y : ℕ} {l : List ℕ} → Mem y l → p y ≡ true → Mem y (select p l)
+  pub mem-select : {y : A} {l : List A} → Mem y l → p y ≡ true → Mem y (select p l)
   mem-select (here {x = x} {xs = xs} e) t = rw (select-yes x xs (ap p (sym e) ∙ t)) (here e)
   mem-select (there {x = x} {xs = xs} m) t = ⊎-elim
       (λ (e : p x ≡ true). rw (select-yes x xs e) (there (mem-select m t)))
@@ -118,7 +134,7 @@ module _ (p : ℕ → Bool) where
       (answers (p x))
 
   -- a selection keeps the relation of earlier and later members
-  pub select-pairwise : (R : ℕ → ℕ → Type 0) (l : List ℕ) → AllPairs R l → AllPairs R (select p l)
+  pub select-pairwise : (R : A → A → Type 0) (l : List A) → AllPairs R l → AllPairs R (select p l)
   unfolding select
   select-pairwise R [] q = tt
   select-pairwise R (x ∷ xs) q = ⊎-elim
@@ -126,29 +142,26 @@ module _ (p : ℕ → Bool) where
       (λ (e : p x ≡ false). rw (select-no x xs e) (select-pairwise R xs (q .1)))
       (answers (p x))
 
--- ---- ranges
+  -- what is selected keeps what held of all, and passes
+  pub selected-all : (P : A → Type 0) (l : List A) → All P l → All (λ (x : A). P x × (p x ≡ true)) (select p l)
+  unfolding select
+  selected-all P [] a = tt
+  selected-all P (x ∷ xs) a = ⊎-elim
+      (λ (e : p x ≡ true). rw e ((a .0, e), selected-all P xs (a .1)))
+      (λ (e : p x ≡ false). rw e (selected-all P xs (a .1)))
+      (answers (p x))
 
--- a range holds the numbers from a on, n of them, and rises
-pub range-mem : {y : ℕ} (a n : ℕ) → Mem y (numbersFrom a n) → (a ≤ y) × (y < a + n)
-unfolding numbersFrom
-range-mem a zero m = absurd (not-nil m)
-range-mem {y} a (suc n) m = ⊎-elim
-    (λ (e : y ≡ a). (omega arith, omega arith))
-    (λ (m : Mem y (numbersFrom (suc a) n)). let r = range-mem (suc a) n m in (omega arith, omega arith))
-    (mem-cons m)
+  -- where all pass, all are selected
+  pub select-all : (l : List A) → All (λ (y : A). p y ≡ true) l → select p l ≡ l
+  unfolding select
+  select-all [] a = refl
+  select-all (x ∷ xs) a = rw (a .0) (ap (λ (l : List A). x ∷ l) (select-all xs (a .1)))
 
-pub mem-range : (y a n : ℕ) → a ≤ y → y < a + n → Mem y (numbersFrom a n)
-unfolding numbersFrom
-mem-range y a zero h k = absurd (omega arith)
-mem-range y a (suc n) h k = ⊎-elim
-    (λ (e : a ≡ y). here (sym e))
-    (λ (l : a < y). there (mem-range y (suc a) n l (omega arith)))
-    (eq-or-lt-of-le h)
-
-pub range-rises : (a n : ℕ) → AllPairs _<_ (numbersFrom a n)
-unfolding numbersFrom
-range-rises a zero = tt
-range-rises a (suc n) = (mem-all (λ (y : ℕ). a < y) (numbersFrom (suc a) n) (λ y m. range-mem (suc a) n m .0), range-rises (suc a) n)
+-- two tests that answer alike select alike
+pub select-agree : {A : Type 0} (p q : A → Bool) (l : List A) → All (λ (x : A). p x ≡ q x) l → select p l ≡ select q l
+unfolding select
+select-agree p q [] a = refl
+select-agree p q (x ∷ xs) a = rw (a .0, select-agree p q xs (a .1)) refl
 
 -- ---- lists made member by member
 
@@ -168,10 +181,15 @@ flat-agree f g [] h = refl
 flat-agree f g (x ∷ xs) h = rw (h x (here refl), flat-agree f g xs (λ c m. h c (there m)))
 
 -- a list in two parts is made part by part
-pub flat-append : (f : ℕ → List ℕ) (l m : List ℕ) → flatMap f (l ++ m) ≡ flatMap f l ++ flatMap f m
+pub flat-append : {A : Type 0} (f : A → List ℕ) (l m : List A) → flatMap f (l ++ m) ≡ flatMap f l ++ flatMap f m
 unfolding flatMap
 flat-append f [] m = refl
 flat-append f (x ∷ xs) m = rw (flat-append f xs m) (sym (append-assoc (f x) (flatMap f xs) (flatMap f m)))
+
+-- one member more
+pub flat-more : {A : Type 0} (f : A → List ℕ) (l : List A) (x : A) → flatMap f (l ++ x ∷ []) ≡ flatMap f l ++ f x
+unfolding flatMap
+flat-more f l x = flat-append f l (x ∷ []) ∙ ap (λ (m : List ℕ). flatMap f l ++ m) (append-nil (f x))
 
 -- ---- no repeats
 
@@ -222,12 +240,6 @@ piece-mem [] l after k d h j = let inside : k < length l = omega arith in mem-ca
 piece-mem (x ∷ xs) l after zero d h j = absurd (omega arith)
 piece-mem (x ∷ xs) l after (suc k) d h j = piece-mem xs l after k d (omega arith) (omega arith)
 
--- where all pass, all are selected
-pub select-all : (p : ℕ → Bool) (l : List ℕ) → All (λ (y : ℕ). p y ≡ true) l → select p l ≡ l
-unfolding select
-select-all p [] a = refl
-select-all p (x ∷ xs) a = rw (a .0) (ap (λ (l : List ℕ). x ∷ l) (select-all p xs (a .1)))
-
 -- a number is another than n
 other : ℕ → ℕ → Bool
 other n y = not (eqb y n)
@@ -273,22 +285,6 @@ distinct-bound (suc n) l d a =
 
 -- ---- tests of members
 
--- two tests that pass together are one
-pub same-test : (a b : Bool) → (a ≡ true → b ≡ true) → (b ≡ true → a ≡ true) → a ≡ b
-same-test true true f g = refl
-same-test true false f g = sym (f refl)
-same-test false true f g = g refl
-same-test false false f g = refl
-
--- one of two tests passes
-pub or-cases : (a b : Bool) → (a || b) ≡ true → (a ≡ true) ⊎ (b ≡ true)
-or-cases true b e = inl refl
-or-cases false b e = inr e
-
-pub or-right : (a b : Bool) → b ≡ true → (a || b) ≡ true
-or-right true b e = refl
-or-right false b e = e
-
 -- `elem` finds the members, and nothing else
 pub elem-mem : (y : ℕ) (l : List ℕ) → elem y l ≡ true → Mem y l
 unfolding elem
@@ -316,3 +312,67 @@ pub mem-any : (p : ℕ → Bool) {y : ℕ} {l : List ℕ} → Mem y l → p y �
 unfolding anyOf
 mem-any p {y} (here {x = x} {xs = xs} e) h = rw (ap p (sym e) ∙ h)
 mem-any p (there {x = x} {xs = xs} m) h = or-right (p x) (anyOf p xs) (mem-any p m h)
+
+-- ---- the first that passes
+
+-- something is found or nothing
+pub found-or-none : (o : Option ℕ) → ((j : ℕ) × (o ≡ some j)) ⊎ (o ≡ none)
+found-or-none none = inr refl
+found-or-none (some j) = inl (j, refl)
+
+module _ (p : ℕ → Bool) where
+  -- what is found stands in the list and passes
+  pub find-some : (l : List ℕ) {j : ℕ} → find p l ≡ some j → Mem j l × (p j ≡ true)
+  unfolding find
+  find-some [] e = absurd (true≢false cc)
+  find-some (x ∷ xs) {j} e = ⊎-elim
+      (λ (t : p x ≡ true). let same : j ≡ x = cc in (here same, ap p same ∙ t))
+      (λ (t : p x ≡ false). let r = find-some xs (rw t at e) in (there (r .0), r .1))
+      (answers (p x))
+
+  -- where nothing is found nothing passes
+  pub find-none : {l : List ℕ} {x : ℕ} → Mem x l → find p l ≡ none → p x ≡ false
+  unfolding find
+  find-none {x} (here {x = y} {xs = ys} e) f = ⊎-elim
+      (λ (t : p y ≡ true). cc)
+      (λ (t : p y ≡ false). ap p e ∙ t)
+      (answers (p y))
+  find-none (there {x = y} {xs = ys} m) f = ⊎-elim
+      (λ (t : p y ≡ true). cc)
+      (λ (t : p y ≡ false). find-none m (rw t at f))
+      (answers (p y))
+
+  -- what is found comes before the others that pass
+  pub find-first : (R : ℕ → ℕ → Type 0) {l : List ℕ} {j x : ℕ} → AllPairs R l → Mem x l → find p l ≡ some j → p x ≡ true → (x ≡ j) ⊎ R j x
+  unfolding find
+  find-first R {j = j} {x = x} s (here {x = y} {xs = ys} e) f t = inl (let passed : p y ≡ true = ap p (sym e) ∙ t in cc)
+  find-first R {j = j} {x = x} s (there {x = y} {xs = ys} m) f t = ⊎-elim
+      (λ (c : p y ≡ true). let same : y ≡ j = cc in inr (rw (← same) (all-mem (R y) (s .0) m)))
+      (λ (c : p y ≡ false). find-first R (s .1) m (rw c at f) t)
+      (answers (p y))
+
+  -- of two parts, the first is looked through first
+  pub find-left : (xs ys : List ℕ) {j : ℕ} → find p xs ≡ some j → find p (xs ++ ys) ≡ some j
+  unfolding find
+  find-left [] ys e = absurd (true≢false cc)
+  find-left (x ∷ xs) ys e = ⊎-elim
+      (λ (t : p x ≡ true). rw t (rw t at e))
+      (λ (t : p x ≡ false). rw t (find-left xs ys (rw t at e)))
+      (answers (p x))
+
+  -- and then the second
+  pub find-right : (xs ys : List ℕ) → find p xs ≡ none → find p (xs ++ ys) ≡ find p ys
+  unfolding find
+  find-right [] ys e = refl
+  find-right (x ∷ xs) ys e = ⊎-elim
+      (λ (t : p x ≡ true). absurd (true≢false cc))
+      (λ (t : p x ≡ false). rw t (find-right xs ys (rw t at e)))
+      (answers (p x))
+
+-- ---- sums
+
+-- one member more adds its number
+pub total-more : {A : Type 0} (f : A → ℕ) (l : List A) (x : A) → total f (l ++ x ∷ []) ≡ total f l + f x
+unfolding total
+total-more f [] x = omega arith
+total-more f (y ∷ l) x = omega (arith, total-more f l x)

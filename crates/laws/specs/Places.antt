@@ -1,5 +1,4 @@
--- The place at which a number first stands in a list, and cuts of the list. Nothing here is of document 01.
--- Assumes nothing.
+-- The place at which a number first stands in a list, and cuts of the list.
 use Prim.Native.Nat.{ℕ, zero, suc, _≤_, _<_}
 use mathlib.Core.Path.{_≡_, refl, sym, ap, _∙_}
 use mathlib.Core.Logic.{_⊎_, inl, inr, ⊎-elim, _≢_}
@@ -10,8 +9,8 @@ use lib.ListN.{length, getD, take, drop, take-append-drop}
 use lib.Dec.{eqb}
 use borrow.Author.Tests.{eqb-true, eqb-false, eq-eqb, ne-eqb}
 use Rattle.model.specs.Lists.{indexOf, AllPairs}
-use Rattle.tree_laws.specs.Lists.{Distinct, answers, all-mem, mem-all, pairwise-imply}
-use Rattle.matching.specs.Lists.{mem-rest}
+use Rattle.laws.specs.Lists.{Distinct, all-mem, mem-all, pairwise-imply, getD-mem, mem-rest}
+use Rattle.laws.specs.Booleans.{answers}
 
 -- the first member stands at place 0
 pub index-here : {j x : ℕ} (xs : List ℕ) → j ≡ x → indexOf j (x ∷ xs) ≡ 0
@@ -45,12 +44,6 @@ getD-index {j} d (there {x = x} {xs = xs} m) = ⊎-elim
     (λ c. rw (c .1) (sym (c .0)))
     (λ c. rw (c .1) (getD-index d m))
     (index-cases j x xs)
-
--- what stands at a place is a member
-pub getD-mem : (l : List ℕ) (i d : ℕ) → i < length l → Mem (getD l i d) l
-getD-mem [] i d h = absurd (omega arith)
-getD-mem (x ∷ xs) zero d h = here refl
-getD-mem (x ∷ xs) (suc i) d h = there (getD-mem xs i d (omega arith))
 
 -- in a list without repeats what stands at a place has that place
 pub index-getD : (l : List ℕ) (i d : ℕ) → Distinct l → i < length l → indexOf (getD l i d) l ≡ i
@@ -117,3 +110,21 @@ index-drop (suc m) [] d n = absurd (not-nil n)
 index-drop {j} (suc m) (x ∷ xs) d n =
     let differs : j ≢ x = λ e. all-mem (λ (y : ℕ). x ≢ y) (d .0) (drop-mem m xs n) (sym e) in
     omega (arith, index-there xs differs, index-drop m xs (d .1) n)
+
+-- ---- any number, member or not
+
+-- a place is at most the length
+pub index-le : (j : ℕ) (l : List ℕ) → indexOf j l ≤ length l
+index-le j [] = unfold indexOf in omega arith
+index-le j (x ∷ xs) = ⊎-elim (λ c. omega (arith, c .1)) (λ c. omega (arith, c .1, index-le j xs)) (index-cases j x xs)
+
+-- at a place inside the list stands the number
+pub index-stands : (j : ℕ) (l : List ℕ) → indexOf j l < length l → getD l (indexOf j l) 0 ≡ j
+index-stands j [] h = absurd (omega arith)
+index-stands j (x ∷ xs) h = ⊎-elim (λ c. rw (c .1) (sym (c .0))) (λ c. rw (c .1) (index-stands j xs (omega (arith, c .1)))) (index-cases j x xs)
+
+-- and nowhere before it
+pub index-first : (j : ℕ) (l : List ℕ) (k : ℕ) → k < indexOf j l → getD l k 0 ≡ j → ⊥
+index-first j [] k h e = omega (arith, index-le j [])
+index-first j (x ∷ xs) zero h e = omega (arith, index-here xs (sym e))
+index-first j (x ∷ xs) (suc k) h e = ⊎-elim (λ c. omega (arith, c .1)) (λ c. index-first j xs k (omega (arith, c .1)) e) (index-cases j x xs)

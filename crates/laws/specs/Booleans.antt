@@ -1,0 +1,44 @@
+-- Plain laws of tests and their answers.
+use mathlib.Core.Path.{_≡_, refl, sym, _∙_}
+use mathlib.Core.Logic.{_⊎_, inl, inr}
+use mathlib.Core.Bool.{Bool, true, false, _||_, true≢false}
+use lib.Dec.{T}
+
+-- a test answers one or the other
+pub answers : (b : Bool) → (b ≡ true) ⊎ (b ≡ false)
+answers true = inl refl
+answers false = inr refl
+
+-- and not both
+pub one-answer : {b : Bool} → b ≡ true → b ≡ false → ⊥
+one-answer p q = true≢false (sym p ∙ q)
+
+-- two tests that pass together are one
+pub same-test : (a b : Bool) → (a ≡ true → b ≡ true) → (b ≡ true → a ≡ true) → a ≡ b
+same-test true true f g = refl
+same-test true false f g = sym (f refl)
+same-test false true f g = g refl
+same-test false false f g = refl
+
+-- one of two tests passes
+pub or-cases : (a b : Bool) → (a || b) ≡ true → (a ≡ true) ⊎ (b ≡ true)
+or-cases true b e = inl refl
+or-cases false b e = inr e
+
+pub or-right : (a b : Bool) → b ≡ true → (a || b) ≡ true
+or-right true b e = refl
+or-right false b e = e
+
+-- neither does
+pub or-false-both : (a b : Bool) → (a || b) ≡ false → (a ≡ false) × (b ≡ false)
+or-false-both true b e = absurd (true≢false e)
+or-false-both false b e = (refl, e)
+
+-- a test that passes, as a type
+pub true-T : {b : Bool} → b ≡ true → T b
+true-T e = rw e tt
+
+-- and back
+pub T-true : (b : Bool) → T b → b ≡ true
+T-true true t = refl
+T-true false t = absurd t
