@@ -24,9 +24,9 @@ use Rattle.model.specs.Outcomes.{PlannedAs}
 use Rattle.model.specs.declared.Planned.the-variants as planned
 use Rattle.model.specs.declared.Totals.{Totals}
 use Rattle.model.specs.Rival.{Pair}
-use Rattle.tree_laws.specs.Lists.{answers}
-use Rattle.tree_laws.specs.Numbers.{numbers-length, numbers-at}
-use Rattle.matching.specs.Lists.{all-member}
+use Rattle.laws.specs.Booleans.{answers}
+use Rattle.laws.specs.Numbers.{numbers-length, numbers-at}
+use Rattle.laws.specs.Lists.{all-member}
 use Rattle.matching.specs.Passes.{Run, done, joined, alone, greedy-run}
 use Rattle.matching.specs.Partners.{passes-places, partner-cell}
 use Rattle.matching.specs.MaximumAtEveryCut.{partners-front}

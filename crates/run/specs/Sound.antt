@@ -17,7 +17,9 @@ use Rattle.model.specs.Tree.{layoutLimit, rightParent, ancestorOrSelf, layoutsF
 use Rattle.model.specs.Jobs.{Table, jobs, jobLimit, top, bottom, jobVerdict}
 use Rattle.model.specs.Planning.{workCells, jobsVerdict, planVerdict}
 use Rattle.model.specs.Table.{Line, Frame, layoutFrame, jobFrame, soloFrame, endFrame, frameOf, lines, isEnd, outOfOrder, contentVerdict, frameVerdict, withJob, extended, Reading, read, unlessRefused, readFrame, readLines, emptyTable, readTable}
-use Rattle.tree_laws.specs.Numbers.{numbers-mem}
+use Rattle.laws.specs.Booleans.{or-false-both}
+use Rattle.laws.specs.Verdicts.{then-accepted, not-refused}
+use Rattle.laws.specs.Numbers.{numbers-mem}
 use Rattle.settle.specs.Checked.{layoutsVerdict, within-limit}
 use Rattle.jobs.specs.PlanVerdict.{right-layouts}
 
@@ -31,18 +33,6 @@ pub record Sound (tb : Table) : Type 0 where
   pub judged : (j : ℕ) → j < jobs tb → jobVerdict (tb .parents) (top tb j) (bottom tb j) j ≡ accepted
 
 -- ---- verdicts
-
-both-accepted : (v w : Verdict) → (v then w) ≡ accepted → (v ≡ accepted) × (w ≡ accepted)
-both-accepted accepted w e = (refl, e)
-both-accepted (refused number place) w e = let apart : _≡_ {A = ℕ} 0 1 = cc in absurd (omega arith)
-
-no-ground : (b : Bool) (number place : ℕ) → refuseIf b number place ≡ accepted → b ≡ false
-no-ground true number place e = let apart : _≡_ {A = ℕ} 0 1 = cc in absurd (omega arith)
-no-ground false number place e = refl
-
-neither : (a b : Bool) → (a || b) ≡ false → (a ≡ false) × (b ≡ false)
-neither true b e = (e, cc)
-neither false b e = (refl, e)
 
 -- a job that is right at one line is right at any place
 elsewhere : (a b : Bool) (line j : ℕ) → (refuseIf a 5 line then refuseIf b 6 line) ≡ accepted → (refuseIf a 5 j then refuseIf b 6 j) ≡ accepted
@@ -60,7 +50,7 @@ layouts-more : (x : ℕ) (ps : List ℕ) (p : ℕ) → layoutsFrom x ps ≡ acce
 unfolding layoutsFrom
 layouts-more x [] p e r = let r′ : rightParent x p ≡ true = rw add-zero at r in rw r′ refl
 layouts-more x (q ∷ ps) p e r =
-    let first = both-accepted (refuseIf (not (rightParent x q)) 4 x) (layoutsFrom (suc x) ps) e in
+    let first = then-accepted (refuseIf (not (rightParent x q)) 4 x) (layoutsFrom (suc x) ps) e in
     let shift : suc x + length ps ≡ x + length (q ∷ ps) = omega arith in
     let later : layoutsFrom (suc x) (ps ++ p ∷ []) ≡ accepted = layouts-more (suc x) ps p (first .1) (rw shift r) in
     rw (first .0, later) refl
@@ -71,10 +61,10 @@ getD-more xs x j h = List·getD-append xs (x ∷ []) 0 j h
 module _ (tb : Table) (s : Sound tb) where
   layout-sound : (p line : ℕ) → jobs tb ≡ 0 → (refuseIf (leb layoutLimit (length (tb .parents))) 3 line then refuseIf (not (rightParent (length (tb .parents)) p)) 4 line) ≡ accepted → Sound (record { parents = tb .parents ++ p ∷ []; tops = tb .tops; bottoms = tb .bottoms; marks = tb .marks })
   layout-sound p line none-yet e =
-      let both = both-accepted (refuseIf (leb layoutLimit (length (tb .parents))) 3 line) (refuseIf (not (rightParent (length (tb .parents)) p)) 4 line) e in
+      let both = then-accepted (refuseIf (leb layoutLimit (length (tb .parents))) 3 line) (refuseIf (not (rightParent (length (tb .parents)) p)) 4 line) e in
       record {
-        small = omega (arith, length-append (tb .parents) (p ∷ []), leb-false layoutLimit (length (tb .parents)) (no-ground (leb layoutLimit (length (tb .parents))) 3 line (both .0)));
-        right = layouts-more 0 (tb .parents) p (s .right) (rw zero-add (not-false (rightParent (length (tb .parents)) p) (no-ground (not (rightParent (length (tb .parents)) p)) 4 line (both .1))));
+        small = omega (arith, length-append (tb .parents) (p ∷ []), leb-false layoutLimit (length (tb .parents)) (not-refused (leb layoutLimit (length (tb .parents))) 3 line (both .0)));
+        right = layouts-more 0 (tb .parents) p (s .right) (rw zero-add (not-false (rightParent (length (tb .parents)) p) (not-refused (not (rightParent (length (tb .parents)) p)) 4 line (both .1))));
         few = s .few;
         bottoms-length = s .bottoms-length;
         marks-length = s .marks-length;
@@ -83,11 +73,11 @@ module _ (tb : Table) (s : Sound tb) where
 
   job-sound : (t b mark line : ℕ) → (refuseIf (leb jobLimit (jobs tb)) 3 line then jobVerdict (tb .parents) t b line) ≡ accepted → Sound (withJob tb t b mark)
   job-sound t b mark line e =
-      let both = both-accepted (refuseIf (leb jobLimit (jobs tb)) 3 line) (jobVerdict (tb .parents) t b line) e in
+      let both = then-accepted (refuseIf (leb jobLimit (jobs tb)) 3 line) (jobVerdict (tb .parents) t b line) e in
       record {
         small = s .small;
         right = s .right;
-        few = omega (arith, length-append (tb .tops) (t ∷ []), leb-false jobLimit (jobs tb) (no-ground (leb jobLimit (jobs tb)) 3 line (both .0)));
+        few = omega (arith, length-append (tb .tops) (t ∷ []), leb-false jobLimit (jobs tb) (not-refused (leb jobLimit (jobs tb)) 3 line (both .0)));
         bottoms-length = omega (arith, s .bottoms-length, length-append (tb .tops) (t ∷ []), length-append (tb .bottoms) (b ∷ []));
         marks-length = omega (arith, s .marks-length, length-append (tb .tops) (t ∷ []), length-append (tb .marks) (mark ∷ []));
         judged = λ j h. elim (decLt j (jobs tb)) [
@@ -102,18 +92,18 @@ module _ (tb : Table) (s : Sound tb) where
 frame-sound : (line : ℕ) (tb : Table) (ended : Bool) (f : Frame) → Sound tb → frameVerdict line tb ended f ≡ accepted → Sound (extended tb f) × (isEnd f ≡ true → length (extended tb f .parents) ≢ 0)
 unfolding frameVerdict outOfOrder contentVerdict extended isEnd
 frame-sound line tb ended (layoutFrame p) s e =
-    let both = both-accepted (refuseIf (ended || ltb 0 (jobs tb)) 2 line) (refuseIf (leb layoutLimit (length (tb .parents))) 3 line then refuseIf (not (rightParent (length (tb .parents)) p)) 4 line) e in
-    let none-yet : jobs tb ≤ 0 = ltb-false 0 (jobs tb) (neither ended (ltb 0 (jobs tb)) (no-ground (ended || ltb 0 (jobs tb)) 2 line (both .0)) .1) in
+    let both = then-accepted (refuseIf (ended || ltb 0 (jobs tb)) 2 line) (refuseIf (leb layoutLimit (length (tb .parents))) 3 line then refuseIf (not (rightParent (length (tb .parents)) p)) 4 line) e in
+    let none-yet : jobs tb ≤ 0 = ltb-false 0 (jobs tb) (or-false-both ended (ltb 0 (jobs tb)) (not-refused (ended || ltb 0 (jobs tb)) 2 line (both .0)) .1) in
     (layout-sound tb s p line (omega arith) (both .1), λ (q : false ≡ true). let apart : _≡_ {A = ℕ} 0 1 = cc in absurd (omega arith))
 frame-sound line tb ended (jobFrame t b) s e =
-    let both = both-accepted (refuseIf (ended || eqb (length (tb .parents)) 0) 2 line) (refuseIf (leb jobLimit (jobs tb)) 3 line then jobVerdict (tb .parents) t b line) e in
+    let both = then-accepted (refuseIf (ended || eqb (length (tb .parents)) 0) 2 line) (refuseIf (leb jobLimit (jobs tb)) 3 line then jobVerdict (tb .parents) t b line) e in
     (job-sound tb s t b 0 line (both .1), λ (q : false ≡ true). let apart : _≡_ {A = ℕ} 0 1 = cc in absurd (omega arith))
 frame-sound line tb ended (soloFrame t b) s e =
-    let both = both-accepted (refuseIf (ended || eqb (length (tb .parents)) 0) 2 line) (refuseIf (leb jobLimit (jobs tb)) 3 line then jobVerdict (tb .parents) t b line) e in
+    let both = then-accepted (refuseIf (ended || eqb (length (tb .parents)) 0) 2 line) (refuseIf (leb jobLimit (jobs tb)) 3 line then jobVerdict (tb .parents) t b line) e in
     (job-sound tb s t b 1 line (both .1), λ (q : false ≡ true). let apart : _≡_ {A = ℕ} 0 1 = cc in absurd (omega arith))
 frame-sound line tb ended (endFrame n m) s e =
-    let both = both-accepted (refuseIf (ended || eqb (length (tb .parents)) 0) 2 line) (refuseIf (not (eqb n (length (tb .parents)) && eqb m (jobs tb))) 7 line) e in
-    (s, λ q. eqb-false (length (tb .parents)) 0 (neither ended (eqb (length (tb .parents)) 0) (no-ground (ended || eqb (length (tb .parents)) 0) 2 line (both .0)) .1))
+    let both = then-accepted (refuseIf (ended || eqb (length (tb .parents)) 0) 2 line) (refuseIf (not (eqb n (length (tb .parents)) && eqb m (jobs tb))) 7 line) e in
+    (s, λ q. eqb-false (length (tb .parents)) 0 (or-false-both ended (eqb (length (tb .parents)) 0) (not-refused (ended || eqb (length (tb .parents)) 0) 2 line (both .0)) .1))
 
 -- ---- all lines
 
