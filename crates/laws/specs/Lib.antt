@@ -2,6 +2,7 @@
 pub mod Booleans
 pub mod Verdicts
 pub mod Lists
+pub mod Without
 pub mod Numbers
 pub mod Counting
 pub mod Places

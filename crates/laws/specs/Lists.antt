@@ -1,14 +1,14 @@
 -- Plain laws of lists: members, earlier and later ones, selections, lists made member by member, lists without repeats, the first that passes.
 use Prim.Native.Nat.{ℕ, zero, suc, _+_, _≤_, _<_}
 use mathlib.Core.Path.{_≡_, refl, sym, ap, _∙_, subst}
-use mathlib.Core.Bool.{Bool, true, false, not, _||_, true≢false, false≢true}
+use mathlib.Core.Bool.{Bool, true, false, _||_, true≢false, false≢true}
 use mathlib.Core.Logic.{_⊎_, inl, inr, ⊎-elim, _≢_}
 use mathlib.Core.Option.{Option, none, some}
 use mathlib.Core.List.{List, [], _∷_, _++_, map, flatMap, headD, append-assoc, append-nil, List·Memᴰ as Mem, List·Memᴰ·head as here, List·Memᴰ·tail as there, List·Memᴰ·not-nil as not-nil, List·Memᴰ·cases-cons as mem-cons, Memᴰ·append-right as mem-right, Memᴰ·cast as mem-cast, List·Memᴰ·append-cases as mem-append}
 use native.Mathlib.Omega.{arith}
 use lib.ListN.{length, getD, length-append, List·getD-append}
 use lib.Dec.{eqb}
-use borrow.Author.Tests.{eqb-true, eqb-false, eq-eqb, ne-eqb, not-true, not-false}
+use borrow.Author.Tests.{eqb-true, eq-eqb, ne-eqb}
 use Rattle.model.specs.Lists.{indexOf, lastD, elem, anyOf, select, find, total, All, AllPairs}
 use Rattle.laws.specs.Booleans.{answers, or-cases, or-right}
 
@@ -239,49 +239,6 @@ pub piece-mem : (before l after : List ℕ) (k d : ℕ) → length before ≤ k 
 piece-mem [] l after k d h j = let inside : k < length l = omega arith in mem-cast (List·getD-append l after d k inside) (getD-mem l k d inside)
 piece-mem (x ∷ xs) l after zero d h j = absurd (omega arith)
 piece-mem (x ∷ xs) l after (suc k) d h j = piece-mem xs l after k d (omega arith) (omega arith)
-
--- a number is another than n
-other : ℕ → ℕ → Bool
-other n y = not (eqb y n)
-
-other-true : (n y : ℕ) → y ≢ n → other n y ≡ true
-unfolding other
-other-true n y h = ap not (ne-eqb y n h)
-
-true-other : (n y : ℕ) → other n y ≡ true → y ≢ n
-unfolding other
-true-other n y e = eqb-false y n (not-true (eqb y n) e)
-
-false-other : (n y : ℕ) → other n y ≡ false → y ≡ n
-unfolding other
-false-other n y e = eqb-true y n (not-false (eqb y n) e)
-
--- one number taken out of a list without repeats makes it shorter by one at most
-select-other : (n : ℕ) (l : List ℕ) → Distinct l → length l ≤ suc (length (select (other n) l))
-unfolding select
-select-other n [] d = omega arith
-select-other n (x ∷ xs) d = ⊎-elim
-    (λ (e : other n x ≡ true). rw e (omega (arith, select-other n xs (d .1))))
-    (λ (e : other n x ≡ false). rw (e, select-all (other n) xs (mem-all (λ (y : ℕ). other n y ≡ true) xs (differs e))) (omega arith))
-    (answers (other n x))
-  where
-    differs : other n x ≡ false → (y : ℕ) → Mem y xs → other n y ≡ true
-    differs e y m = other-true n y (λ same. all-mem (λ (y : ℕ). x ≢ y) (d .0) m (false-other n x e ∙ sym same))
-
--- numbers below n without repeats are at most n: take n - 1 out, which stands there once at most
-pub distinct-bound : (n : ℕ) (l : List ℕ) → Distinct l → All (λ (y : ℕ). y < n) l → length l ≤ n
-distinct-bound zero [] d a = omega arith
-distinct-bound zero (x ∷ xs) d a = absurd (omega arith)
-distinct-bound (suc n) l d a =
-    let others : Distinct (select (other n) l) = select-pairwise (other n) (λ (x y : ℕ). x ≢ y) l d in
-    omega (arith, select-other n l d, distinct-bound n (select (other n) l) others (mem-all (λ (y : ℕ). y < n) (select (other n) l) smaller))
-  where
-    smaller : (y : ℕ) → Mem y (select (other n) l) → y < n
-    smaller y m =
-        let s = select-mem (other n) l m in
-        let below : y < suc n = all-mem (λ (y : ℕ). y < suc n) a (s .0) in
-        let differs : y ≢ n = true-other n y (s .1) in
-        omega arith
 
 -- ---- tests of members
 

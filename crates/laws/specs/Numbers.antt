@@ -33,6 +33,8 @@ unfolding numbersFrom
 range-rises a zero = tt
 range-rises a (suc n) = (mem-all (λ (y : ℕ). a < y) (numbersFrom (suc a) n) (λ y m. range-mem (suc a) n m .0), range-rises (suc a) n)
 
+-- ---- the numbers below n
+
 -- every number below n is one of them
 pub mem-numbers : (y n : ℕ) → y < n → Mem y (numbers n)
 unfolding numbers
@@ -64,7 +66,7 @@ unfolding numbers
 numbers-length n = range-length 0 n
 
 -- what is made of a range, member by member
-pub range-at : {A : Type 0} (f : ℕ → A) (a n i : ℕ) (d : A) → i < n → getD (map f (numbersFrom a n)) i d ≡ f (a + i)
+range-at : {A : Type 0} (f : ℕ → A) (a n i : ℕ) (d : A) → i < n → getD (map f (numbersFrom a n)) i d ≡ f (a + i)
 unfolding numbersFrom
 range-at f a zero i d h = absurd (omega arith)
 range-at f a (suc n) zero d h = ap f (omega arith)
@@ -74,6 +76,8 @@ range-at f a (suc n) (suc i) d h = range-at f (suc a) n i d (omega arith) ∙ ap
 pub numbers-at : {A : Type 0} (f : ℕ → A) (n i : ℕ) (d : A) → i < n → getD (map f (numbers n)) i d ≡ f i
 unfolding numbers
 numbers-at f n i d h = range-at f 0 n i d h ∙ ap f (omega arith)
+
+-- ---- the first and the last of them
 
 -- the first of a range
 pub range-head : (a n d : ℕ) → 0 < n → headD (numbersFrom a n) d ≡ a

@@ -1,5 +1,4 @@
 -- Laws of the matching rule (000, Algorithm 1), of the running order and of rival plans (document 01, "Rival plans and the cut").
-pub mod Without
 pub mod Maximum
 pub mod Passes
 pub mod Renamed

@@ -15,7 +15,7 @@ use Rattle.model.specs.Greedy.{without, greedyStep, greedySteps, greedy}
 use Rattle.model.specs.Rival.{Pair, Disjoint}
 use Rattle.model.specs.Planning.{pairCount}
 use Rattle.laws.specs.Lists.{all-mem, mem-all, mem-rest, found-or-none, find-some, find-none, find-first}
-use Rattle.matching.specs.Without.{without-mem, mem-without, without-pairwise, without-length}
+use Rattle.laws.specs.Without.{without-mem, mem-without, without-pairwise, without-length}
 
 -- a test of two vertices, of those that `Vertex` holds of, that eliminates strongly in the order of falling D (000, Definition 11)
 pub record StrongElimination (Vertex : ℕ → Type 0) (D : ℕ → ℕ) (fit : ℕ → ℕ → Bool) : Type 0 where

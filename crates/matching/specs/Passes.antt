@@ -14,7 +14,7 @@ use Rattle.model.specs.Rival.{Pair}
 use Rattle.model.specs.Planning.{pairCount, singleCount}
 use Rattle.laws.specs.Lists.{Distinct, all-mem, mem-all, found-or-none, find-some}
 use Rattle.laws.specs.Places.{index-rises}
-use Rattle.matching.specs.Without.{without-mem, mem-without, without-pairwise, without-length, without-one}
+use Rattle.laws.specs.Without.{without-mem, mem-without, without-pairwise, without-length, without-one}
 
 -- the pairs of the passes, in order
 unfoldable pub pairsIn : List Pass → List Pair

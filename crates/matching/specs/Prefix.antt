@@ -13,7 +13,7 @@ use Rattle.model.specs.Greedy.{without, greedySteps, greedy}
 use Rattle.model.specs.Rival.{Pair}
 use Rattle.laws.specs.Lists.{Distinct, all-mem, mem-all, pairwise-across, elem-mem, mem-elem, found-or-none, find-some, find-left, find-right}
 use Rattle.laws.specs.Booleans.{answers}
-use Rattle.matching.specs.Without.{without-mem, without-none, without-append}
+use Rattle.laws.specs.Without.{without-mem, without-none, without-append}
 use Rattle.matching.specs.Passes.{pairsIn, step-with, step-alone, steps-greedy}
 
 -- both vertices of a pair lie inside

@@ -13,7 +13,7 @@ use Rattle.model.specs.Greedy.{Pass, pair, single, without, greedy}
 use Rattle.model.specs.Planning.{pairCount}
 use Rattle.laws.specs.Booleans.{answers}
 use Rattle.laws.specs.Lists.{find-some}
-use Rattle.matching.specs.Without.{without-mem, without-pairwise, without-drop, without-keep}
+use Rattle.laws.specs.Without.{without-mem, without-pairwise, without-drop, without-keep}
 use Rattle.matching.specs.Passes.{greedy-done, greedy-with, greedy-alone, Run, done, matched, alone, greedy-run}
 
 -- a pass by the names of its vertices

@@ -6,7 +6,8 @@ use mathlib.Core.List.{List, [], _∷_, _++_, flatMap, append-assoc, append-nil,
 use native.Mathlib.Omega.{arith}
 use lib.ListN.{length, getD, length-append}
 use Rattle.model.specs.Tree.{children, orSelf, leavesWithin, leaves, firstLeaf, lastLeaf}
-use Rattle.laws.specs.Lists.{Distinct, pairwise-imply, mem-all, mem-split, flat-mem, flat-agree, flat-append, flat-distinct, first-place, last-place, distinct-bound}
+use Rattle.laws.specs.Lists.{Distinct, pairwise-imply, mem-all, mem-split, flat-mem, flat-agree, flat-append, flat-distinct, first-place, last-place}
+use Rattle.laws.specs.Without.{distinct-bound}
 use Rattle.tree_laws.specs.WellFormed.{Tree}
 use Rattle.tree_laws.specs.Ancestors.{AncestorOrSelf, self, up, ancestor-root}
 use Rattle.tree_laws.specs.Children.{child-parent, parent-child, child-greater, child-ancestor, child-unique, children-rise}

@@ -1,17 +1,18 @@
--- A list of places without one of them.
-use Prim.Native.Nat.{ℕ, suc, _≤_}
+-- A list of numbers without one of them, and with it the length of a list without repeats.
+use Prim.Native.Nat.{ℕ, suc, _≤_, zero, _<_}
 use mathlib.Core.Path.{_≡_, refl, sym, ap, _∙_}
 use mathlib.Core.Logic.{_⊎_, ⊎-elim, _≢_}
 use mathlib.Core.Bool.{true, false, not, _&&_}
 use mathlib.Core.List.{List, [], _∷_, _++_, List·Memᴰ as Mem, List·Memᴰ·head as here, List·Memᴰ·tail as there}
 use native.Mathlib.Omega.{arith}
+use native.Mathlib.Decide.{ℕ-discrete}
 use lib.ListN.{length}
 use lib.Dec.{eqb}
 use borrow.Author.Tests.{eqb-false, eq-eqb, ne-eqb, not-true}
-use Rattle.model.specs.Lists.{select, AllPairs}
+use Rattle.model.specs.Lists.{select, AllPairs, All}
 use Rattle.model.specs.Greedy.{without}
 use Rattle.laws.specs.Lists.{Distinct, all-mem, mem-all, select-all, select-mem, mem-select, select-pairwise}
 use Rattle.laws.specs.Booleans.{answers}
 
 -- what stays is not j, and stood in the list
 pub without-mem : {x : ℕ} (j : ℕ) (l : List ℕ) → Mem x (without j l) → Mem x l × (x ≢ j)
@@ -65,3 +66,25 @@ without-append j (x ∷ xs) ys = ⊎-elim
     (λ (t : not (eqb x j) ≡ true). rw t (ap (λ (l : List ℕ). x ∷ l) (without-append j xs ys)))
     (λ (t : not (eqb x j) ≡ false). rw t (without-append j xs ys))
     (answers (not (eqb x j)))
+
+-- one number left out of a list without repeats makes it shorter by one at most
+without-shorter : (n : ℕ) (l : List ℕ) → Distinct l → length l ≤ suc (length (without n l))
+without-shorter n [] d = omega arith
+without-shorter n (x ∷ xs) d = elim (ℕ-discrete x n) [
+  | yes same ↦ rw (same, without-drop n xs, without-none n xs (λ y m e. all-mem (λ (y : ℕ). x ≢ y) (d .0) m (same ∙ sym e))) (omega arith)
+  | no other ↦ rw (without-keep n x xs other) (omega (arith, without-shorter n xs (d .1)))
+]
+
+-- numbers below n without repeats are at most n: leave n - 1 out, which stands there once at most
+pub distinct-bound : (n : ℕ) (l : List ℕ) → Distinct l → All (λ (y : ℕ). y < n) l → length l ≤ n
+distinct-bound zero [] d a = omega arith
+distinct-bound zero (x ∷ xs) d a = absurd (omega arith)
+distinct-bound (suc n) l d a =
+    omega (arith, without-shorter n l d, distinct-bound n (without n l) (without-pairwise (λ (x y : ℕ). x ≢ y) n l d) (mem-all (λ (y : ℕ). y < n) (without n l) smaller))
+  where
+    smaller : (y : ℕ) → Mem y (without n l) → y < n
+    smaller y m =
+        let s = without-mem n l m in
+        let below : y < suc n = all-mem (λ (y : ℕ). y < suc n) a (s .0) in
+        let differs : y ≢ n = s .1 in
+        omega arith
