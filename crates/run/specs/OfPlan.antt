@@ -26,11 +26,12 @@ use Rattle.model.specs.declared.Totals.{Totals}
 use Rattle.model.specs.Rival.{Pair}
 use Rattle.laws.specs.Booleans.{answers}
 use Rattle.laws.specs.Numbers.{numbers-length, numbers-at}
-use Rattle.laws.specs.Lists.{all-member}
+use Rattle.laws.specs.Lists.{all-mem}
 use Rattle.matching.specs.Passes.{Run, done, joined, alone, greedy-run}
 use Rattle.matching.specs.Partners.{passes-places, partner-cell}
 use Rattle.matching.specs.MaximumAtEveryCut.{partners-front}
-use Rattle.jobs.specs.Accepted.{Accepted, plan-accepted}
+use Rattle.jobs.specs.Accepted.{Accepted}
+use Rattle.run.specs.Sound.{read-table}
 use Rattle.passes.specs.OfTable.{planPass, pass-among}
 use Rattle.passes.specs.PlanPass.{one-known, other-known, one-partner, other-partner, single-known, single-partner}
 
@@ -86,7 +87,7 @@ module _ (tb : Table) (a : Accepted tb) (rest more : List ℕ) where
       let other = other-known tb a k i j h is in
       let forth = partner-held i one ∙ one-partner tb a k i j h is in
       let back = partner-held j other ∙ other-partner tb a k i j h is in
-      let before = all-member (λ (p : Pair). place tb (p .one) < place tb (p .other)) (passes-places tb) ((rw is at (pass-among (passes tb) k (single 0) h)) .2) in (
+      let before = all-mem (λ (p : Pair). place tb (p .one) < place tb (p .other)) (passes-places tb) ((rw is at (pass-among (passes tb) k (single 0) h)) .2) in (
         rw (forth, ne-eqb j FFFF (λ e. omega (arith, a .few)), lt-ltb (place tb i) (place tb j) before, layout-held i one) refl,
         rw (back, ne-eqb i FFFF (λ e. omega (arith, a .few)), le-ltb (place tb j) (place tb i) (omega arith)) refl,
       )
@@ -119,4 +120,4 @@ run-prints-plan bytes tb e partners layouts work t partners′ layouts′ work�
         let p : t .pairs ≡ Planning.pairs tb = cc in
         let s : t .singles ≡ Planning.singles tb = cc in
         let c : t .visits ≡ cellCount tb = cc in
-        rw (e, p, s, c, o .partners-hold, o .printed-hold) (ap (λ (l : List ℕ). l ++ totalsLine (Planning.pairs tb) (Planning.singles tb) (cellCount tb)) (lines-held tb (plan-accepted tb (length partners) (length layouts) (length work) v) (drop (jobs tb) partners) (drop (jobs tb) layouts)))
+        rw (e, p, s, c, o .partners-hold, o .printed-hold) (ap (λ (l : List ℕ). l ++ totalsLine (Planning.pairs tb) (Planning.singles tb) (cellCount tb)) (lines-held tb (read-table bytes tb e) (drop (jobs tb) partners) (drop (jobs tb) layouts)))

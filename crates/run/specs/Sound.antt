@@ -17,10 +17,12 @@ use Rattle.model.specs.Tree.{layoutLimit, rightParent, ancestorOrSelf, layoutsF
 use Rattle.model.specs.Jobs.{Table, jobs, jobLimit, top, bottom, jobVerdict}
 use Rattle.model.specs.Planning.{workCells, jobsVerdict, planVerdict}
 use Rattle.model.specs.Table.{Line, Frame, layoutFrame, jobFrame, soloFrame, endFrame, frameOf, lines, isEnd, outOfOrder, contentVerdict, frameVerdict, withJob, extended, Reading, read, unlessRefused, readFrame, readLines, emptyTable, readTable}
+use Rattle.tree_laws.specs.WellFormed.{well-formed, layouts-more}
 use Rattle.laws.specs.Booleans.{or-false-both}
 use Rattle.laws.specs.Verdicts.{then-accepted, not-refused}
 use Rattle.laws.specs.Numbers.{numbers-mem}
 use Rattle.settle.specs.Checked.{layoutsVerdict, within-limit}
+use Rattle.jobs.specs.Accepted.{Accepted, table-accepted}
 use Rattle.jobs.specs.PlanVerdict.{right-layouts}
 
 -- what holds of the table so far
@@ -45,15 +47,6 @@ unfolding jobVerdict
 job-elsewhere ps t b line j e = elsewhere (leb (length ps) t || leb (length ps) b) (not (ancestorOrSelf ps t b)) line j e
 
 -- ---- one line more
-
-layouts-more : (x : ℕ) (ps : List ℕ) (p : ℕ) → layoutsFrom x ps ≡ accepted → rightParent (x + length ps) p ≡ true → layoutsFrom x (ps ++ p ∷ []) ≡ accepted
-unfolding layoutsFrom
-layouts-more x [] p e r = let r′ : rightParent x p ≡ true = rw add-zero at r in rw r′ refl
-layouts-more x (q ∷ ps) p e r =
-    let first = then-accepted (refuseIf (not (rightParent x q)) 4 x) (layoutsFrom (suc x) ps) e in
-    let shift : suc x + length ps ≡ x + length (q ∷ ps) = omega arith in
-    let later : layoutsFrom (suc x) (ps ++ p ∷ []) ≡ accepted = layouts-more (suc x) ps p (first .1) (rw shift r) in
-    rw (first .0, later) refl
 
 getD-more : (xs : List ℕ) (x : ℕ) (j : ℕ) → j < length xs → getD (xs ++ x ∷ []) j 0 ≡ getD xs j 0
 getD-more xs x j h = List·getD-append xs (x ∷ []) 0 j h
@@ -148,10 +141,21 @@ module _ (bytes : List ℕ) (tb : Table) (is : readTable bytes ≡ read tb) wher
   unfolding readTable
   read-sound = lines-sound tb (lines bytes) 1 emptyTable false empty-sound (λ (q : false ≡ true). let apart : _≡_ {A = ℕ} 0 1 = cc in absurd (omega arith)) is
 
-  pub read-accepted : (partners printed work : ℕ) → jobs tb ≤ partners → jobs tb ≤ printed → workCells ≤ work → planVerdict tb partners printed work ≡ accepted
+  jobs-right : jobsVerdict tb ≡ accepted
   unfolding jobsVerdict
+  jobs-right = let s = read-sound .0 in all-right (λ (j : ℕ). jobVerdict (tb .parents) (top tb j) (bottom tb j) j) _ (λ j m. s .judged j (numbers-mem (jobs tb) m))
+
+  tree-right : treeVerdict (tb .parents) ≡ accepted
+  tree-right = some-layouts (tb .parents) (read-sound .1) (read-sound .0 .right)
+
+  -- it is a table that can be planned
+  pub read-table : Accepted tb
+  read-table =
+      let s = read-sound .0 in
+      table-accepted tb (well-formed (tb .parents) tree-right (s .small)) (s .few) (sym (s .bottoms-length)) (sym (s .marks-length)) jobs-right
+
+  -- and *Plan* accepts it, with enough lent
+  pub read-accepted : (partners printed work : ℕ) → jobs tb ≤ partners → jobs tb ≤ printed → workCells ≤ work → planVerdict tb partners printed work ≡ accepted
   read-accepted partners printed work p l w =
       let s = read-sound .0 in
-      right-layouts tb partners printed work (record { bottoms-length = s .bottoms-length; marks-length = s .marks-length; partners-room = p; printed-room = l; work-room = w }) (s .few)
-      (within-limit (tb .parents) (s .small) ∙ some-layouts (tb .parents) (read-sound .1) (s .right))
-      ∙ all-right (λ (j : ℕ). jobVerdict (tb .parents) (top tb j) (bottom tb j) j) _ (λ j m. s .judged j (numbers-mem (jobs tb) m))
+      right-layouts tb partners printed work (record { bottoms-length = s .bottoms-length; marks-length = s .marks-length; partners-room = p; printed-room = l; work-room = w }) (s .few) (within-limit (tb .parents) (s .small) ∙ tree-right) ∙ jobs-right

@@ -3,16 +3,16 @@ use Prim.Native.Nat.{ℕ, zero, suc, _+_, _-_, _*_, _≤_, _<_}
 use mathlib.Core.Path.{_≡_, refl, sym, _∙_}
 use mathlib.Core.Bool.{true, false, cond}
 use mathlib.Core.List.{List, [], _∷_, _++_}
-use native.Mathlib.Nat.{add-zero, add-suc, suc-add, zero-add}
+use native.Mathlib.Nat.{zero-add}
 use native.Mathlib.Numerals.{add-one}
 use native.Mathlib.Omega.{arith}
 use lib.ListN.{length, take, drop, set, replicate, length-set}
 use lib.Seq.{drop-set-lt, take-suc-set, drop-drop, length-take-le}
-use Rattle.model.specs.Verdict.{accepted, refused, _then_}
-use Rattle.model.specs.Tree.{FFFF, layoutLimit, rightParent, layoutsFrom}
+use Rattle.model.specs.Verdict.{accepted, refused}
+use Rattle.model.specs.Tree.{FFFF, layoutLimit, layoutsFrom}
 use Rattle.model.specs.Table.{extended}
 use Rattle.model.specs.declared.Refusal.{Refusal}
-use Rattle.laws.specs.Verdicts.{passed}
+use Rattle.tree_laws.specs.WellFormed.{layouts-more}
 use Rattle.table.specs.Unchecked.{halted, unchecked}
 use Rattle.table.specs.Steps.{uncheckedFrom, endedAt, LayoutLine, JobLine, EndLine, Unused, Room, Roomy, BuffersReady, held, SoFar, stopVerdict, LinesRead}
 use Rattle.table.specs.Lines.{no-bytes}
@@ -33,17 +33,6 @@ unused-more v n a cells h u =
 
 used-more : (n a : ℕ) (cells : List ℕ) → n < length cells → take (n + 1) (set cells n a) ≡ take n cells ++ (a ∷ [])
 used-more n a cells h = rw add-one (take-suc-set cells n a h)
-
--- ---- parents
-
--- right parents stay right with one more at the end
-layouts-more : (x : ℕ) (ps : List ℕ) (p : ℕ) → layoutsFrom x ps ≡ accepted → rightParent (x + length ps) p ≡ true → layoutsFrom x (ps ++ p ∷ []) ≡ accepted
-unfolding layoutsFrom
-layouts-more x [] p e r = let right : rightParent x p ≡ true = rw add-zero at r in rw right
-layouts-more x (q ∷ ps) p e r =
-    let first = passed (rightParent x q) 4 x (layoutsFrom (suc x) ps) e in
-    let last : rightParent (suc x + length ps) p ≡ true = rw (suc-add, ← add-suc) r in
-    rw (first .0, layouts-more (suc x) ps p (first .1) last)
 
 -- ---- so far
 

@@ -2,7 +2,7 @@
 use Prim.Native.Nat.{ℕ, zero, suc, _+_, _≤_, _<_}
 use mathlib.Core.Path.{_≡_}
 use mathlib.Core.Bool.{true}
-use mathlib.Core.List.{List, [], _∷_}
+use mathlib.Core.List.{List, [], _∷_, _++_}
 use native.Mathlib.Nat.{zero-add, add-zero, suc-add, add-suc}
 use native.Mathlib.Decide.{decLt}
 use native.Mathlib.Omega.{arith}
@@ -25,6 +25,15 @@ unfolding layoutsFrom
 right-parents x [] e i h = let no-place : ⊥ = omega arith in absurd no-place
 right-parents x (p ∷ ps) e zero h = rw add-zero (passed (rightParent x p) 4 x (layoutsFrom (suc x) ps) e .0)
 right-parents x (p ∷ ps) e (suc i) h = rw (add-suc, ← suc-add) (right-parents (suc x) ps (passed (rightParent x p) 4 x (layoutsFrom (suc x) ps) e .1) i (omega arith))
+
+-- right parents stay right with one more at the end
+pub layouts-more : (x : ℕ) (ps : List ℕ) (p : ℕ) → layoutsFrom x ps ≡ accepted → rightParent (x + length ps) p ≡ true → layoutsFrom x (ps ++ p ∷ []) ≡ accepted
+unfolding layoutsFrom
+layouts-more x [] p e r = let right : rightParent x p ≡ true = rw add-zero at r in rw right
+layouts-more x (q ∷ ps) p e r =
+    let first = passed (rightParent x q) 4 x (layoutsFrom (suc x) ps) e in
+    let last : rightParent (suc x + length ps) p ≡ true = rw (suc-add, ← add-suc) r in
+    rw (first .0, layouts-more (suc x) ps p (first .1) last)
 
 module _ (ps : List ℕ) (right : (i : ℕ) → i < length ps → rightParent i (getD ps i 0) ≡ true) where
   -- a parent is smaller: by the test inside the list, and past its end it is 0
