@@ -2,7 +2,7 @@
 pub mod Laws
 pub mod Stamps
 pub mod Copies
-pub mod Links
+pub mod Counts
 pub mod Depths
-pub mod Walk
+pub mod Spans
 pub mod Outcome
