@@ -2,7 +2,7 @@
 pub mod Laws
 pub mod Stamps
 pub mod Copies
-pub mod Counts
+pub mod Links
 pub mod Depths
-pub mod Spans
+pub mod Walk
 pub mod Outcome

@@ -1,22 +1,25 @@
 -- Laws of the verdict of settling, refusal by refusal, and of its outcome.
 use Prim.Native.Nat.{ℕ, _+_, _<_, _≤_}
-use mathlib.Core.Path.{_≡_, refl, _∙_}
+use mathlib.Core.Path.{_≡_, refl, sym, _∙_}
+use mathlib.Core.Bool.{and-true}
 use mathlib.Core.List.{List, [], _∷_}
 use native.Mathlib.Nat.{zero-add}
 use native.Mathlib.Omega.{arith}
-use lib.ListN.{length, getD}
+use lib.ListN.{length, getD, replicate, length-replicate, getD-replicate}
 use lib.Dec.{ltb}
 use borrow.Author.Tests.{lt-ltb, le-ltb}
 use Rattle.model.specs.Verdict.{Verdict, accepted, refused, refuseIf, _then_, answer, gives, refuses}
-use Rattle.model.specs.Tree.{layoutLimit, layoutsFrom, treeVerdict, settleVerdict, depth, firstLeaf, lastLeaf}
+use Rattle.model.specs.Tree.{FFFF, layoutLimit, layoutsFrom, treeVerdict, settleVerdict, depth, firstLeaf, lastLeaf}
 use Rattle.model.specs.Answers.{settledAnswer}
 use Rattle.model.specs.Outcomes.{SettledAs}
 use Rattle.model.specs.declared.Settled.{Settled}
 use Rattle.tree_laws.specs.WellFormed.{Tree}
+use Rattle.tree_laws.specs.Chain.{true-ancestor, ancestor-root}
+use Rattle.tree_laws.specs.Leaves.{first-root}
 use Rattle.settle.specs.Spanned.{firstCells, lastCells, treeCells, Spanned}
 use Rattle.settle.specs.Checked.{layoutsVerdict, over-limit, within-limit}
-use Rattle.settle.specs.Numbering.{FirstWrong, Stamped, below, SpansSet}
-use Rattle.settle.proofs.Stamps.{stamped-at, stamped-all}
+use Rattle.settle.specs.Numbering.{FirstWrong, linkCells, Unlinked, Linked, Stamped, below, inSubtree, Numberable, Numbered}
+use Rattle.settle.proofs.Stamps.{stamped-as, stamped-at, stamped-all}
 
 -- a list with a layout is judged layout by layout
 tree-layouts : (ps : List ℕ) → ((length ps ≡ 0) → ⊥) → treeVerdict ps ≡ layoutsFrom 0 ps
@@ -89,13 +92,28 @@ module _ (ps depths firsts lasts : List ℕ) (r : Settled) where
 
 -- ---- a tree array settled
 
--- depths first, then the spans
-pub tree-spanned : (ps : List ℕ) → Tree ps → (old deep new : List ℕ) → length deep ≡ treeCells → Stamped 0 layoutLimit (below (length ps)) (depth ps) old deep → SpansSet ps deep new → Spanned ps new
-tree-spanned ps t old deep new room d n =
-    record {
-      tree = t;
-      room = n .same ∙ room;
-      depth-at = λ x h. n .depths-kept x (omega (arith, t .small)) ∙ (rw (zero-add x) at (stamped-at 0 layoutLimit (length ps) (depth ps) old deep d x h (omega (arith, t .small))));
-      first-at = n .first-at;
-      last-at = n .last-at;
-    }
+-- fresh links
+pub unlinked : (ps : List ℕ) → length ps ≤ layoutLimit → Unlinked ps (replicate linkCells FFFF)
+unlinked ps h = record { room = length-replicate linkCells FFFF; empty = λ x inside. getD-replicate linkCells x FFFF 0 (omega arith) }
+
+-- numbering begins at layout 0
+pub root-numberable : (ps links cells : List ℕ) → Tree ps → Linked ps links → length cells ≡ treeCells → Numberable ps links 0 0 cells
+root-numberable ps links cells t l room = record { tree = t; linked = l; room = room; known = t .nonempty; start = sym (first-root ps t) }
+
+-- depths first, then the leaves of layout 0 and its descendants, which are all layouts
+module _ (ps : List ℕ) (t : Tree ps) (old deep new : List ℕ) (room : length deep ≡ treeCells) (d : Stamped 0 layoutLimit (below (length ps)) (depth ps) old deep) (r : ℕ) (n : Numbered ps (inSubtree ps 0) 0 deep r new) where
+  every : (y : ℕ) → inSubtree ps 0 y ≡ below (length ps) y
+  every y = rw (true-ancestor ps t (ancestor-root ps t y)) (and-true (ltb y (length ps)))
+
+  leaf-at : (base : ℕ) (f : ℕ → ℕ) → Stamped base layoutLimit (inSubtree ps 0) f deep new → (x : ℕ) → x < length ps → getD new (base + x) 0 ≡ f x
+  leaf-at base f s x h = stamped-at base layoutLimit (length ps) f deep new (stamped-as base layoutLimit (inSubtree ps 0) (below (length ps)) f deep new every s) x h (omega (arith, t .small))
+
+  pub tree-spanned : Spanned ps new
+  tree-spanned =
+      record {
+        tree = t;
+        room = n .same ∙ room;
+        depth-at = λ x h. n .depths-kept x (omega (arith, t .small)) ∙ (rw (zero-add x) at (stamped-at 0 layoutLimit (length ps) (depth ps) old deep d x h (omega (arith, t .small))));
+        first-at = leaf-at firstCells (firstLeaf ps) (n .firsts-hold);
+        last-at = leaf-at lastCells (lastLeaf ps) (n .lasts-hold);
+      }

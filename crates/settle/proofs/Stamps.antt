@@ -1,7 +1,7 @@
 -- Laws of cells written one by one: what a store adds, how two writings follow one another, and what a whole writing leaves.
 use Prim.Native.Nat.{ℕ, _+_, _-_, _<_, _≤_}
 use mathlib.Core.Path.{_≡_, refl, sym, ap, _∙_}
-use mathlib.Core.Bool.{Bool, cond, _||_}
+use mathlib.Core.Bool.{Bool, true, false, cond, _||_}
 use mathlib.Core.List.{List, _++_, map}
 use native.Mathlib.Nat.{zero-add}
 use native.Mathlib.Omega.{arith}
@@ -25,6 +25,20 @@ module _ (base room : ℕ) where
     | yes same ↦ rw (same, getD-set-same new (base + x) v 0 h, eq-eqb x x refl) e
     | no other ↦ rw (getD-set-other new (base + x) (base + y) v 0 (λ q. other (omega arith)), ne-eqb y x other) (s y inside)
   ]
+
+  -- a store elsewhere
+  pub stamped-other : (p : ℕ → Bool) (f : ℕ → ℕ) (old new : List ℕ) (i v : ℕ) → ((y : ℕ) → y < room → base + y ≡ i → ⊥) → Stamped base room p f old new → Stamped base room p f old (set new i v)
+  stamped-other p f old new i v apart s y inside = getD-set-other new i (base + y) v 0 (apart y inside) ∙ s y inside
+
+  joined : (p q : Bool) (a b : ℕ) → cond q a (cond p a b) ≡ cond (p || q) a b
+  joined true true a b = refl
+  joined true false a b = refl
+  joined false true a b = refl
+  joined false false a b = refl
+
+  -- one writing after another
+  pub stamped-then : (p q : ℕ → Bool) (f : ℕ → ℕ) (a b c : List ℕ) → Stamped base room p f a b → Stamped base room q f b c → Stamped base room (λ (y : ℕ). p y || q y) f a c
+  stamped-then p q f a b c s t y h = t y h ∙ rw (s y h) (joined (p y) (q y) (f y) (getD a (base + y) 0))
 
   -- what is written at one of the first n
   pub stamped-at : (n : ℕ) (f : ℕ → ℕ) (old new : List ℕ) → Stamped base room (below n) f old new → (y : ℕ) → y < n → y < room → getD new (base + y) 0 ≡ f y

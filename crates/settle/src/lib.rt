@@ -5,7 +5,7 @@ use model::Settled;
 ghost use mathlib.Core.Path.{_≡_};
 ghost use mathlib.Core.List.{List, []};
 ghost use Prim.Native.Nat.{ℕ, _+_, _<_, _≤_};
-ghost use lib.ListN.{length, getD, replicate};
+ghost use lib.ListN.{length, getD};
 ghost use lib.Dec.{ltb};
 ghost use Rattle.model.specs.Verdict.{refuses, answer, refuseIf, _then_};
 ghost use Rattle.model.specs.Tree.{layoutLimit, rightParent, treeVerdict, depth, ancestorOrSelf};
@@ -13,7 +13,7 @@ ghost use Rattle.model.specs.Answers.{settledAnswer};
 ghost use Rattle.model.specs.Outcomes.{SettleOutcome};
 ghost use Rattle.tree_laws.specs.WellFormed.{Tree};
 ghost use Rattle.settle.specs.Spanned.{firstCells, lastCells, treeCells, Spanned};
-ghost use Rattle.settle.specs.Numbering.{FirstWrong, Stamped, below, orOne, LeavesCounted, SpansSet};
+ghost use Rattle.settle.specs.Numbering.{FirstWrong, Unlinked, Linked, Stamped, below, SomeNumberable, EachNumbered, inSubtree, properlyInSubtree};
 
 // Where a tree array has the depths, the first leaves and the last leaves of the layouts, by number. The depths come first: that of x is at x.
 pub const DEPTH: usize = 0;
@@ -23,6 +23,11 @@ pub const FIRST: usize = LayoutNumber::LIMIT;
 pub const LAST: usize = 2 * LayoutNumber::LIMIT;
 
 pub const TREE: usize = 3 * LayoutNumber::LIMIT;
+
+// Where the links have the next sibling of each layout, after the first children.
+const SIBLING: usize = LayoutNumber::LIMIT;
+
+const LINKS: usize = 2 * LayoutNumber::LIMIT;
 
 // The number in a cell, for counting.
 fn wide(cell: u16) -> usize
@@ -141,54 +146,52 @@ fn set_depths(parents: &[u16], tree: &mut [u16; TREE])
     }
 }
 
-// A layout with no children is a leaf: it has one, and any other as many as its children.
-fn or_one(count: u16) -> u16
-    ensures { λ r. ⌜ r ≡ orOne count ⌝ }
+// Links each layout to its first child and each child to its next sibling, from the last layout down.
+fn link_children(parents: &[u16], links: &mut [u16; LINKS])
+    requires { ⌜ Tree (now parents) ⌝ }
+    requires { ⌜ Unlinked (now parents) (now links) ⌝ }
+    ensures { λ r. ⌜ Linked (now (parents .entry)) (now (links .exit)) ⌝ }
 {
-    if count == 0 {
-        return 1;
+    let mut y = parents.len();
+    while 1 < y {
+        y -= 1;
+        let p = parents[y] as usize;
+        links[SIBLING + y] = links[p];
+        links[p] = y as u16;
     }
-    count
 }
 
-// Counts the leaves of each layout, from the last layout down: its children have greater numbers and are counted already.
-fn count_leaves(parents: &[u16], counts: &mut [u16; LayoutNumber::LIMIT])
-    requires { ⌜ Tree (now parents) ⌝ }
-    requires { ⌜ now counts ≡ replicate layoutLimit 0 ⌝ }
-    ensures { λ r. ⌜ LeavesCounted (now (parents .entry)) (now (counts .exit)) ⌝ }
+// Numbers the leaves of x and of its descendants from `next` on, and answers the number after its last.
+// Calls go as deep as the tree, so they are kept light: the tree is in the contract alone, and an array is lent as one word.
+fn number(links: &[u16; LINKS], x: LayoutNumber, next: u16, tree: &mut [u16; TREE]) -> u16
+    requires { ⌜ SomeNumberable (now links) (x .0) next (now tree) ⌝ }
+    ensures { λ r. ⌜ EachNumbered inSubtree (now (links .entry)) (x .0) next (now (tree .entry)) r (now (tree .exit)) ⌝ }
 {
-    let mut x = parents.len();
-    while 1 < x {
-        x -= 1;
-        let p = parents[x] as usize;
-        let count = or_one(counts[x]);
-        counts[x] = count;
-        counts[p] += count;
-    }
-    counts[0] = or_one(counts[0]);
+    let at = x.0 as usize;
+    let after = number_children(links, x, next, tree);
+    tree[FIRST + at] = next;
+    tree[LAST + at] = after - 1;
+    after
 }
 
-// Sets first and last leaf of each layout: the leaves of a layout are its children's, child by child. `next` has the first leaf of each layout's next child.
-fn set_spans(parents: &[u16], counts: &[u16; LayoutNumber::LIMIT], tree: &mut [u16; TREE])
-    requires { ⌜ Tree (now parents) ⌝ }
-    requires { ⌜ LeavesCounted (now parents) (now counts) ⌝ }
-    requires { ⌜ length (now tree) ≡ treeCells ⌝ }
-    ensures { λ r. ⌜ SpansSet (now (parents .entry)) (now (tree .entry)) (now (tree .exit)) ⌝ }
+// The same for the descendants of x alone: its children's leaves, child by child; a layout with no children is a leaf.
+fn number_children(links: &[u16; LINKS], x: LayoutNumber, next: u16, tree: &mut [u16; TREE]) -> u16
+    requires { ⌜ SomeNumberable (now links) (x .0) next (now tree) ⌝ }
+    ensures { λ r. ⌜ EachNumbered properlyInSubtree (now (links .entry)) (x .0) next (now (tree .entry)) r (now (tree .exit)) ⌝ }
 {
-    let mut next = [0; LayoutNumber::LIMIT];
-    tree[FIRST] = 0;
-    tree[LAST] = counts[0] - 1;
-    let mut x = 1;
-    while x < parents.len() {
-        let p = parents[x] as usize;
-        let first = next[p];
-        let after = first + counts[x];
-        next[p] = after;
-        next[x] = first;
-        tree[FIRST + x] = first;
-        tree[LAST + x] = after - 1;
-        x += 1;
+    let at = x.0 as usize;
+    let mut c = links[at];
+    if c == model::ABSENT {
+        return next + 1;
     }
+    let mut after = next;
+    while c != model::ABSENT {
+        let here = c as usize;
+        let following = links[SIBLING + here];
+        after = number(links, LayoutNumber(c), after, tree);
+        c = following;
+    }
+    after
 }
 
 // Settles layouts whose parents are right.
@@ -197,10 +200,10 @@ pub fn settle_tree(parents: &[u16], tree: &mut [u16; TREE])
     requires { ⌜ length (now tree) ≡ treeCells ⌝ }
     ensures { λ r. ⌜ Spanned (now (parents .entry)) (now (tree .exit)) ⌝ }
 {
-    let mut counts = [0; LayoutNumber::LIMIT];
-    count_leaves(parents, &mut counts);
     set_depths(parents, tree);
-    set_spans(parents, &counts, tree);
+    let mut links = [model::ABSENT; LINKS];
+    link_children(parents, &mut links);
+    number(&links, LayoutNumber(0), 0, tree);
 }
 
 // Copies `count` cells of a tree array from `from` on, and leaves the cells after them as they were.

@@ -64,7 +64,7 @@ slice-aggregate-print-table-4 : tie.Need-slice-aggregate-print-table-4
 slice-aggregate-print-table-4 c = let h = held-of (c .before .before .before .before .before .before .before) in sym (length-take-le _ (c .before .before .before .before .before .before .before .before .before .before .before .before .before .before .before .before .before .read-lines .last .1 .1 .1 .1 .0) (h .holds .marks-hold))
 
 print-table-requires : tie.Need-print-table-requires
-print-table-requires c κs =
+print-table-requires c κs = 
     let h = held-of (c .before .before .before .before .before .before .before .before .before) in
     let s = c .before .before .before .before .before .before .before .before .before .before .before .before .before .before .before .before .before .before .before .before .before .before .before .before .before .before .before .before .before .before .before in
     (h .table, (h .spanned, (work-roomy _ _ _ _ _ (s .args .work .now) _ _ _ _ _ _ _ (s .pre .1) (c .before .before .before .before .before .before .before .before .before .before .before .before .before .before .before .before .before .before .before .read-lines .kept .1 .1 .0) h, s .pre .0)))
@@ -82,7 +82,7 @@ same-length-4 : tie.Need-same-length-4
 same-length-4 c = search needs
 
 returns : tie.Need-returns
-returns c =
+returns c = 
     let s = c .before .before .before .before .before .before .before .before .before .before .before .before .before .before .before .before .before .before .before .before .before .before .before .before .before .before in
     let v = c .before .before .before .before .before .before .before .before .before .before .before .before .before .before .read-lines .last .1 in
     refusal-printed _ _ _ _ _ (subst (LinesOutcome (readTable (s .args .input .now)) (v .0) (v .1 .0) (v .1 .1 .0) (v .1 .1 .1 .0) (v .1 .1 .1 .1 .0)) (c .before .before .before .before .before .reading .given .1) (c .before .before .before .before .before .before .before .before .before .before .before .before .before .before .read-lines .ensures)) (c .before .before .print-refusal .ensures)
