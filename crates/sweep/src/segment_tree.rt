@@ -3,7 +3,7 @@
 // stand side by side, and a search goes along them.
 use model::Rank;
 ghost use mathlib.Core.Path.{_≡_};
-ghost use Prim.Native.Nat.{ℕ, _-_, _*_, _^_, _<_, _≤_, min};
+ghost use Prim.Native.Nat.{ℕ, _-_, _*_, _<_, _≤_, min};
 ghost use lib.ListN.{length};
 ghost use Rattle.model.specs.Jobs.{jobLimit};
 ghost use Rattle.sweep_laws.specs.SegmentTree.{SegmentTree, Clearable, Cleared, Insertable, Inserted, Removed, Searchable, Minimum};
@@ -20,18 +20,17 @@ pub struct Shape {
     pub width: usize,
 }
 
-// How many nodes the uppermost level that is kept has: half of the levels are kept.
-fn kept_for(levels: usize) -> usize
-    requires { ⌜ levels ≤ 12 ⌝ }
-    ensures { λ r. ⌜ (1 ≤ r) × (r ≤ 2 ^ levels) ⌝ }
+// How many nodes the uppermost level that is kept has, at most: a search soon goes along so many, and a tree with no more slots needs no other nodes.
+const KEPT: usize = 64;
+
+fn kept_for(width: usize) -> usize
+    requires { ⌜ 1 ≤ width ⌝ }
+    ensures { λ r. ⌜ (1 ≤ r) × (r ≤ width) ⌝ }
 {
-    let mut kept = 1;
-    let mut level = 0;
-    while 2 * level < levels {
-        kept *= 2;
-        level += 1;
+    if width < KEPT {
+        return width;
     }
-    kept
+    KEPT
 }
 
 // The shape for so many places: the smallest power of two that holds them.
@@ -45,7 +44,7 @@ pub fn shape_for(count: usize) -> Shape
         width *= 2;
         levels += 1;
     }
-    let kept = kept_for(levels);
+    let kept = kept_for(width);
     Shape {
         levels,
         kept,

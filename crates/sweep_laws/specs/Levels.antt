@@ -35,6 +35,9 @@ unfolding levels
 levels-begin m = record { within = omega arith; width-is = refl; rest = rw sub-zero refl }
 
 module _ (m level width : ℕ) (l : LevelsTo m level width) where
+  pub width-some : 1 ≤ width
+  width-some = rw (l .width-is) (pow-pos level)
+
   pub levels-room : width < m → level < m
   levels-room h = omega (arith, l .width-is, below-power level)
 
@@ -49,26 +52,3 @@ module _ (m level width : ℕ) (l : LevelsTo m level width) where
 
   pub levels-found : m ≤ width → level ≡ levels m
   levels-found h = sym (l .rest ∙ levels-stop (m - level) level m (rw (← (l .width-is)) h))
-
--- ---- the nodes that are kept: about half of the levels
-
-pub record KeptTo (levels level kept : ℕ) : Type 0 where
-  pub within : level ≤ levels
-  pub kept-is : kept ≡ 2 ^ level
-
-pub kept-begin : (levels : ℕ) → KeptTo levels 0 1
-kept-begin levels = record { within = omega arith; kept-is = refl }
-
-pub kept-step : (levels level kept : ℕ) → level < levels → KeptTo levels level kept → KeptTo levels (level + 1) (kept * 2)
-kept-step levels level kept h k =
-    record { within = omega arith; kept-is = rw (add-one, pow-suc 2 level) (ap (λ (w : ℕ). w * 2) (k .kept-is)) }
-
-pub kept-some : (levels level kept : ℕ) → KeptTo levels level kept → 1 ≤ kept
-kept-some levels level kept k = rw (k .kept-is) (pow-pos level)
-
-pub kept-within : (levels level kept : ℕ) → KeptTo levels level kept → kept ≤ 2 ^ levels
-kept-within levels level kept k = rw (k .kept-is) (pow-mono {i = level} {j = levels} (k .within))
-
--- with few levels it is a small number
-pub kept-small : (levels level kept : ℕ) → levels ≤ 12 → KeptTo levels level kept → kept ≤ 2 ^ 12
-kept-small levels level kept few k = omega (arith, kept-within levels level kept k, pow-mono {i = levels} {j = 12} few)

@@ -90,6 +90,7 @@ step-by-frame s at line tb ended f (step.Job t b mark) e o =
     record {
       not-ended = accepts-open line tb ended f (o .accepts);
       within = rw (o .is, job-width (t .0) (b .0) mark) at (frame-within s at f e);
+      one = o .one;
       some-layout = o .some-layout;
       room = o .room;
       next = frame-read s at line tb ended f e ∙ rw (o .accepts, o .is, extended-job tb (t .0) (b .0) mark (o .one), no-end (t .0) (b .0) mark, job-width (t .0) (b .0) mark);

@@ -89,6 +89,7 @@ module _ (bytes : List ℕ) (at line : ℕ) (tb : Table) (ended : Bool) where
   pub record JobLine (t b mark : ℕ) : Type 0 where
     pub not-ended : ended ≡ false
     pub within : at + 11 ≤ length bytes
+    pub one : mark ≤ 1
     pub some-layout : 0 < length (tb .parents)
     pub room : jobs tb < jobLimit
     pub next : uncheckedFrom bytes at line tb ended ≡ uncheckedFrom bytes (at + 11) (suc line) (withJob tb t b mark) false

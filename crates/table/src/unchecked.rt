@@ -26,10 +26,11 @@ pub struct Progress {
     pub ends: usize,
 }
 
-// What the next line is: a layout with its parent, a job with its mark, or the end.
+// What the next line is: a layout with its parent, a job with its mark, or the end. A mark is a whole word here: a step that fits one word would be passed
+// packed into it, and taken apart again.
 pub enum Step {
     Layout(LayoutNumber),
-    Job(LayoutNumber, LayoutNumber, u8),
+    Job(LayoutNumber, LayoutNumber, usize),
     End,
     Refused(Refusal),
 }
@@ -83,7 +84,7 @@ fn judge_layout(parent: LayoutNumber, p: Progress) -> Step
 }
 
 // A job, or with mark 1 a solo job: 2 before any layout, 3 beyond the limit.
-fn judge_job(top: LayoutNumber, bottom: LayoutNumber, mark: u8, p: Progress) -> Step
+fn judge_job(top: LayoutNumber, bottom: LayoutNumber, mark: usize, p: Progress) -> Step
     requires { ⌜ Counted (p .layouts) (p .jobs) (p .ends) ⌝ }
     requires { ⌜ mark ≤ 1 ⌝ }
     ensures { λ r. ⌜ ((tb : Table) → length (tb .parents) ≡ p .layouts → length (tb .tops) ≡ p .jobs → FrameOutcome (p .layouts + p .jobs + p .ends + 1) tb false (jobOf (top .0) (bottom .0) mark) r) ⌝ }
@@ -194,7 +195,7 @@ pub fn read_unchecked(
             Step::Job(t, b, mark) => {
                 tops[jobs] = t.0;
                 bottoms[jobs] = b.0;
-                marks[jobs] = mark;
+                marks[jobs] = mark as u8;
                 jobs += 1;
                 at += LONG_LINE;
             }

@@ -1,8 +1,7 @@
 -- While the width is too small, the levels are those of the definition one level further on.
 use native.Mathlib.Omega.{arith}
 use Prim.Native.Nat.{_-_}
-use Rattle.sweep_laws.specs.Levels.{LevelsTo, levels-begin, levels-room, levels-step, levels-found}
-use Rattle.laws.specs.Levels.{levels-least}
+use Rattle.sweep_laws.specs.Levels.{LevelsTo, levels-begin, levels-room, levels-step, levels-found, width-some}
 use Rattle.sweep.proofs.segment_tree.shape_for.Statement.{statement}
 use Rattle.sweep.proofs.segment_tree.shape_for.Tie as tie
 
@@ -28,7 +27,7 @@ loop-again : tie.Need-loop-again Inv-loop μ-loop
 loop-again c = levels-step _ _ _ (c .before .loop .inv) (c .loop-test .taken)
 
 kept-for-requires : tie.Need-kept-for-requires Inv-loop μ-loop
-kept-for-requires c κs = omega (arith, levels-found _ _ _ (c .before .loop .inv) (c .loop-test .left), levels-least _ 12 (c .before .before .pre))
+kept-for-requires c κs = width-some _ _ _ (c .before .loop .inv)
 
 returns : tie.Need-returns Inv-loop μ-loop
 returns c =
@@ -36,7 +35,7 @@ returns c =
       levels-are = levels-found _ _ _ (c .before .before .loop .inv) (c .before .loop-test .left);
       width-is = c .before .before .loop .inv .width-is;
       kept-some = c .kept-for .ensures .0;
-      kept-within = rw (c .before .before .loop .inv .width-is) (c .kept-for .ensures .1);
+      kept-within = c .kept-for .ensures .1;
     }
 
 pub shape-for-spec : {M : Type 1} → statement M

@@ -133,6 +133,9 @@ slice-write-bottoms c =
     let i = l .inv in
     bottom-room b (l .parents) (l .tops) (l .bottoms) (l .marks) (l .at) (l .layouts) (l .jobs) (l .ends) (i .so-far) (c .before .step2 .given .0 .0 .0) (c .before .step2 .given .0 .1 .0 .0) (c .before .step2 .given .0 .1 .1 .0) (job c) (roomy (i .parents-same) (i .tops-same) (i .bottoms-same) (i .marks-same) (i .ready .room))
 
+cast-marks : tie.Need-cast-marks Inv-loop μ-loop
+cast-marks c = omega (arith, job c .one)
+
 slice-write-marks : tie.Need-slice-write-marks Inv-loop μ-loop
 slice-write-marks c =
     let l = c .before .before .before .before .before .before .loop in
@@ -232,6 +235,7 @@ read-unchecked-spec =
     slice-write-tops
     mul-bottoms
     slice-write-bottoms
+    cast-marks
     slice-write-marks
     add-jobs
     add-at-2
