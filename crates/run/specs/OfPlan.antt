@@ -27,7 +27,7 @@ use Rattle.model.specs.Rival.{Pair}
 use Rattle.laws.specs.Booleans.{answers}
 use Rattle.laws.specs.Numbers.{numbers-length, numbers-at}
 use Rattle.laws.specs.Lists.{all-mem}
-use Rattle.matching.specs.Passes.{Run, done, joined, alone, greedy-run}
+use Rattle.matching.specs.Passes.{Run, done, matched, alone, greedy-run}
 use Rattle.matching.specs.Partners.{passes-places, partner-cell}
 use Rattle.matching.specs.MaximumAtEveryCut.{partners-front}
 use Rattle.jobs.specs.Accepted.{Accepted}
@@ -65,7 +65,7 @@ module _ (fit : ℕ → ℕ → Bool) (f : Pass → List ℕ) (h : ℕ → List 
   by-turn : {vs : List ℕ} {ps : List Pass} → Run fit vs ps → All Agrees ps → flatMap f ps ≡ flatMap h vs
   unfolding flatMap
   by-turn done a = refl
-  by-turn (joined {v = v} {j = j} {vs = vs} e r) a = rw (a .0 .0) (ap (λ (l : List ℕ). h v ++ l) (by-turn r (a .1) ∙ without-silent h j (a .0 .1) vs))
+  by-turn (matched {v = v} {j = j} {vs = vs} e r) a = rw (a .0 .0) (ap (λ (l : List ℕ). h v ++ l) (by-turn r (a .1) ∙ without-silent h j (a .0 .1) vs))
   by-turn (alone {v = v} e r) a = rw (a .0) (ap (λ (l : List ℕ). h v ++ l) (by-turn r (a .1)))
 
 -- ---- the plan handed back
