@@ -1,6 +1,13 @@
-// Lent buffers, filled with one number.
+// Lent buffers: a cell as an index, and cells filled with one number.
 ghost use mathlib.Core.Path.{_≡_};
 ghost use lib.ListN.{length, replicate};
+
+// A cell as an index: as a call, so that a cast of a cell that is read asks for no proof that it fits.
+pub fn wide(cell: u16) -> usize
+    ensures { λ r. ⌜ r ≡ cell ⌝ }
+{
+    cell as usize
+}
 
 // One value in every cell.
 pub fn fill(cells: &mut [u16], value: u16)

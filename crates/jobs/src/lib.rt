@@ -1,13 +1,32 @@
-// Whether the jobs of a settled tree can be planned (document 01, "What each operation turns away", refusals 5 and 6).
+// The jobs of a table: their tops and bottoms, and whether they can be planned (document 01, "What each operation turns away", refusals 5 and 6).
+use model::JobNumber;
 use model::LayoutNumber;
 use model::Refusal;
 use settle::TREE;
-ghost use Prim.Native.Nat.{_≤_};
+ghost use Prim.Native.Nat.{_<_, _≤_};
 ghost use mathlib.Core.Path.{_≡_};
-ghost use lib.ListN.{length};
+ghost use lib.ListN.{length, getD};
 ghost use Rattle.model.specs.Tree.{layoutLimit};
 ghost use Rattle.model.specs.Jobs.{jobLimit};
 ghost use Rattle.jobs.specs.Checks.{JobChecked, JobsChecked};
+
+// The top of a job.
+pub fn top_of(tops: &[u16], job: JobNumber) -> LayoutNumber
+    requires { ⌜ job .0 < length (now tops) ⌝ }
+    ensures { λ r. ⌜ r .0 ≡ getD (now (tops .entry)) (job .0) 0 ⌝ }
+{
+    let at = job.0 as usize;
+    LayoutNumber(tops[at])
+}
+
+// The bottom of a job.
+pub fn bottom_of(bottoms: &[u16], job: JobNumber) -> LayoutNumber
+    requires { ⌜ job .0 < length (now bottoms) ⌝ }
+    ensures { λ r. ⌜ r .0 ≡ getD (now (bottoms .entry)) (job .0) 0 ⌝ }
+{
+    let at = job.0 as usize;
+    LayoutNumber(bottoms[at])
+}
 
 // What checking the jobs answers: all are right, or the refusal of the smallest wrong one.
 pub enum JobCheck {

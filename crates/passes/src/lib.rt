@@ -1,4 +1,5 @@
 // The passes of a plan (document 01, "The plan"): made in the work cells, from a table to its schedule and by a sweep over it, and read off them.
+use jobs::bottom_of;
 use model::JobNumber;
 use model::LayoutNumber;
 use model::Totals;
@@ -45,15 +46,6 @@ pub fn make_passes(
         singles: (count - 2 * pairs) as u16,
         visits: matched.visits,
     }
-}
-
-// The bottom of a job.
-fn bottom_of(bottoms: &[u16], job: JobNumber) -> LayoutNumber
-    requires { ⌜ job .0 < length (now bottoms) ⌝ }
-    ensures { λ r. ⌜ r .0 ≡ getD (now (bottoms .entry)) (job .0) 0 ⌝ }
-{
-    let at = job.0 as usize;
-    LayoutNumber(bottoms[at])
 }
 
 // The pass of two jobs: they print on the deepest layout that is above both bottoms.

@@ -19,6 +19,13 @@ use Rattle.sweep_laws.specs.Room.{sweep-room}
 use Rattle.passes.specs.Making.{Roomy}
 use Rattle.lines.specs.Writing.{Printed}
 
+-- a table of so few jobs, or of some, is run in arrays of that size
+abbrev pub fewJobs : ℕ
+fewJobs = 128
+
+abbrev pub someJobs : ℕ
+someJobs = 1024
+
 -- clear arrays with room for every job that the input can hold within the limit, and work cells for as many jobs as have room
 pub record ArraysFor (input tops bottoms marks work : List ℕ) : Type 0 where
   pub tops-room : Room input tops

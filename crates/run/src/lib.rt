@@ -6,7 +6,7 @@ use model::LayoutNumber;
 use model::Refusal;
 use model::TableRead;
 use settle::TREE;
-ghost use Prim.Native.Nat.{_≤_};
+ghost use Prim.Native.Nat.{_*_, _≤_};
 ghost use lib.ListN.{length};
 ghost use Rattle.model.specs.Jobs.{tableOf};
 ghost use Rattle.model.specs.Output.{planBytes, refusalBytes, runBytes, outputBytes};
@@ -15,7 +15,7 @@ ghost use Rattle.settle.specs.Spanned.{Spanned};
 ghost use Rattle.jobs.specs.Accepted.{Accepted};
 ghost use Rattle.lines.specs.Writing.{Printed};
 ghost use Rattle.passes.specs.Making.{Roomy};
-ghost use Rattle.run.specs.Whole.{ArraysFor};
+ghost use Rattle.run.specs.Whole.{ArraysFor, fewJobs, someJobs};
 
 // Bytes of output that the whole run needs.
 pub const OUTPUT: usize = 32768;
@@ -97,7 +97,7 @@ fn run_in(
 // The run in arrays for few jobs.
 fn run_few(input: &[u8], output: &mut [u8]) -> usize
     requires { ⌜ outputBytes ≤ length (now output) ⌝ }
-    requires { ⌜ length (now input) ≤ 1408 ⌝ }
+    requires { ⌜ length (now input) ≤ 11 * fewJobs ⌝ }
     ensures { λ r. ⌜ Printed (runBytes (now (input .entry))) (now (output .entry)) r (now (output .exit)) ⌝ }
 {
     let mut tops = [model::ABSENT; FEW];
@@ -117,7 +117,7 @@ fn run_few(input: &[u8], output: &mut [u8]) -> usize
 // In arrays for some jobs.
 fn run_some(input: &[u8], output: &mut [u8]) -> usize
     requires { ⌜ outputBytes ≤ length (now output) ⌝ }
-    requires { ⌜ length (now input) ≤ 11264 ⌝ }
+    requires { ⌜ length (now input) ≤ 11 * someJobs ⌝ }
     ensures { λ r. ⌜ Printed (runBytes (now (input .entry))) (now (output .entry)) r (now (output .exit)) ⌝ }
 {
     let mut tops = [model::ABSENT; SOME];

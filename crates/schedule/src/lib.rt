@@ -1,5 +1,6 @@
 // The schedule that the sweep goes by, in the work cells: what it has to know of a table, by place in the running order. It lies in parts of as many
 // cells as there are places, numbered below; part k begins at k times the number of places.
+use buffers::wide;
 use model::JobNumber;
 use model::Rank;
 ghost use mathlib.Core.Path.{_≡_};
@@ -34,13 +35,6 @@ pub const OPENER: usize = DUE;
 
 // Work cells for the most jobs.
 pub const WORK: usize = 8 * JobNumber::LIMIT;
-
-// A cell as an index.
-fn wide(cell: u16) -> usize
-    ensures { λ r. ⌜ r ≡ cell ⌝ }
-{
-    cell as usize
-}
 
 // The job at a place.
 pub fn job_at(work: &[u16], place: Rank) -> JobNumber

@@ -1,4 +1,5 @@
 // Depth, first leaf and last leaf of each layout (document 01, "Settle layouts"), in a tree array.
+use buffers::wide;
 use model::LayoutNumber;
 use model::Refusal;
 use model::Settled;
@@ -28,13 +29,6 @@ pub const TREE: usize = 3 * LayoutNumber::LIMIT;
 const SIBLING: usize = LayoutNumber::LIMIT;
 
 const LINKS: usize = 2 * LayoutNumber::LIMIT;
-
-// The number in a cell, for counting.
-fn wide(cell: u16) -> usize
-    ensures { λ r. ⌜ r ≡ cell ⌝ }
-{
-    cell as usize
-}
 
 // The depth of layout x.
 pub fn depth_of(tree: &[u16; TREE], x: LayoutNumber) -> u16

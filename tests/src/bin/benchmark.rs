@@ -1,5 +1,5 @@
 //! How long the whole run takes, from the bytes of a table to the bytes of its plan: the proved one,
-//! the one written by hand with the same method, and the quadratic reference. All three run in this
+//! the one written by hand (a wider segment tree, a sparse table), and the quadratic one. All three run in this
 //! process on the same tables, each table the same in every process. They take turns, and the least
 //! time of many calls counts, so that what else the machine does weighs little.
 //!
