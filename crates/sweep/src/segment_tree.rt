@@ -53,10 +53,10 @@ pub fn shape_for(count: usize) -> Shape
 }
 
 // The smaller of two places.
-fn smaller(a: u16, b: u16) -> u16
-    ensures { λ r. ⌜ r ≡ min a b ⌝ }
+fn smaller(a: Rank, b: Rank) -> Rank
+    ensures { λ r. ⌜ r .0 ≡ min (a .0) (b .0) ⌝ }
 {
-    if a < b {
+    if a.0 < b.0 {
         return a;
     }
     b
@@ -83,7 +83,7 @@ pub fn insert(nodes: &mut [u16], shape: Shape, slot: usize, place: Rank)
     nodes[leaf] = place.0;
     let mut node = leaf / 2;
     while shape.kept <= node {
-        nodes[node] = smaller(nodes[node], place.0);
+        nodes[node] = smaller(Rank(nodes[node]), place).0;
         node /= 2;
     }
 }
@@ -95,12 +95,12 @@ pub fn remove(nodes: &mut [u16], shape: Shape, slot: usize)
     ensures { λ r. ⌜ Removed (shape .kept) (shape .width) (now (nodes .entry)) slot (now (nodes .exit)) ⌝ }
 {
     let mut node = shape.width + slot;
-    let mut least = model::ABSENT;
-    nodes[node] = least;
+    let mut least = Rank(model::ABSENT);
+    nodes[node] = least.0;
     while 2 * shape.kept <= node {
         let above = node / 2;
-        least = smaller(least, nodes[4 * above + 1 - node]);
-        nodes[above] = least;
+        least = smaller(least, Rank(nodes[4 * above + 1 - node]));
+        nodes[above] = least.0;
         node = above;
     }
 }
@@ -132,21 +132,21 @@ struct Span {
     left: usize,
     right: usize,
     level: usize,
-    least: u16,
+    least: Rank,
 }
 
 // Narrows a span of nodes, level by level up to the uppermost that is kept: the first and the last node are taken in, and what is left is the span of
 // their parents.
 fn narrow(nodes: &[u16], shape: Shape, from: usize, to: usize) -> Span
     requires { ⌜ Climbable (shape .kept) (shape .width) (now nodes) from to ⌝ }
-    ensures { λ r. ⌜ Climbing (shape .kept) (shape .width) (now (nodes .entry)) from to (r .left) (r .right) (r .least) (r .level) ⌝ }
+    ensures { λ r. ⌜ Climbing (shape .kept) (shape .width) (now (nodes .entry)) from to (r .left) (r .right) (r .least .0) (r .level) ⌝ }
 {
     let mut left = from;
     let mut right = to;
-    let mut least = model::ABSENT;
+    let mut least = Rank(model::ABSENT);
     let mut level = 0;
     while left < right && 2 * shape.kept <= left {
-        least = smaller(least, smaller(nodes[left], nodes[right - 1]));
+        least = smaller(least, smaller(Rank(nodes[left]), Rank(nodes[right - 1])));
         left = (left + 1) / 2;
         right /= 2;
         level += 1;
@@ -160,14 +160,14 @@ fn narrow(nodes: &[u16], shape: Shape, from: usize, to: usize) -> Span
 }
 
 // The smallest of the nodes from `left` up to `right`, and of `least`.
-fn along(nodes: &[u16], left: usize, right: usize, least: u16) -> u16
+fn along(nodes: &[u16], left: usize, right: usize, least: Rank) -> Rank
     requires { ⌜ right ≤ length (now nodes) ⌝ }
-    ensures { λ r. ⌜ r ≡ min least (leastOf (nodeAt (now (nodes .entry))) left (right - left)) ⌝ }
+    ensures { λ r. ⌜ r .0 ≡ min (least .0) (leastOf (nodeAt (now (nodes .entry))) left (right - left)) ⌝ }
 {
     let mut answer = least;
     let mut at = left;
     while at < right {
-        answer = smaller(answer, nodes[at]);
+        answer = smaller(answer, Rank(nodes[at]));
         at += 1;
     }
     answer
@@ -215,7 +215,7 @@ pub fn range_minimum(nodes: &[u16], shape: Shape, from: usize, to: usize) -> Fou
     let meet = meet_at(span.left, span.right, span.level);
     let shared = levels_inside(meet.level, levels, meet.node);
     Found {
-        place: Rank(least),
+        place: least,
         visits: (1 + 2 * (ends - shared)) as u32,
     }
 }

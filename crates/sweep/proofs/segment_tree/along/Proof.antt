@@ -7,19 +7,19 @@ use Rattle.sweep.proofs.segment_tree.along.Statement.{statement}
 use Rattle.sweep.proofs.segment_tree.along.Tie as tie
 
 abbrev Inv-loop : tie.InvT-loop
-Inv-loop nodes left right least answer₀ at₀ answer at = Along nodes left right least at answer
+Inv-loop nodes left right least at₀ answer at = Along nodes left right (least .0) at (answer .0)
 
 abbrev μ-loop : tie.MeasureT-loop
-μ-loop nodes left right least answer₀ at₀ answer at = right - at
+μ-loop nodes left right least at₀ answer at = right - at
 
 loop-holds : tie.Need-loop-holds Inv-loop μ-loop
 loop-holds c = along-first _ _ _ _ (omega arith)
 
-mul-smaller : tie.Need-mul-smaller Inv-loop μ-loop
-mul-smaller c = omega arith
+mul-t8 : tie.Need-mul-t8 Inv-loop μ-loop
+mul-t8 c = omega arith
 
-shared-slice-read-smaller : tie.Need-shared-slice-read-smaller Inv-loop μ-loop
-shared-slice-read-smaller c = omega arith
+shared-slice-read-t10 : tie.Need-shared-slice-read-t10 Inv-loop μ-loop
+shared-slice-read-t10 c = omega arith
 
 smaller-requires : tie.Need-smaller-requires Inv-loop μ-loop
 smaller-requires c κs = search needs
@@ -43,8 +43,8 @@ along-spec =
     Inv-loop
     μ-loop
     loop-holds
-    mul-smaller
-    shared-slice-read-smaller
+    mul-t8
+    shared-slice-read-t10
     smaller-requires
     add-at
     loop-less

@@ -25,11 +25,11 @@ slice-write-nodes c = omega arith
 loop-holds : tie.Need-loop-holds Inv-loop μ-loop
 loop-holds c = inserting-slot _ _ _ _ _ (c .before .before .pre)
 
-mul-smaller : tie.Need-mul-smaller Inv-loop μ-loop
-mul-smaller c = omega arith
+mul-t11 : tie.Need-mul-t11 Inv-loop μ-loop
+mul-t11 c = omega arith
 
-slice-read-smaller : tie.Need-slice-read-smaller Inv-loop μ-loop
-slice-read-smaller c = omega arith
+slice-read-t13 : tie.Need-slice-read-t13 Inv-loop μ-loop
+slice-read-t13 c = omega arith
 
 smaller-requires : tie.Need-smaller-requires Inv-loop μ-loop
 smaller-requires c κs = search needs
@@ -62,8 +62,8 @@ insert-spec =
     mul-nodes
     slice-write-nodes
     loop-holds
-    mul-smaller
-    slice-read-smaller
+    mul-t11
+    slice-read-t13
     smaller-requires
     mul-nodes-2
     slice-write-nodes-2

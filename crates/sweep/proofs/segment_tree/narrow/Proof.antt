@@ -7,7 +7,7 @@ use Rattle.sweep.proofs.segment_tree.narrow.Statement.{statement}
 use Rattle.sweep.proofs.segment_tree.narrow.Tie as tie
 
 abbrev Inv-loop : tie.InvT-loop
-Inv-loop nodes shape from to left₀ right₀ least₀ level₀ left right least level = Climbing (shape .kept) (shape .width) nodes from to left right least level
+Inv-loop nodes shape from to left₀ right₀ least₀ level₀ left right least level = Climbing (shape .kept) (shape .width) nodes from to left right (least .0) level
 
 abbrev μ-loop : tie.MeasureT-loop
 μ-loop nodes shape from to left₀ right₀ least₀ level₀ left right least level = right
@@ -18,20 +18,20 @@ loop-holds c = climbing-first _ _ _ _ _ (c .before .pre)
 mul-if1 : tie.Need-mul-if1 Inv-loop μ-loop
 mul-if1 c = omega arith
 
-mul-smaller : tie.Need-mul-smaller Inv-loop μ-loop
-mul-smaller c = omega arith
+mul-t13 : tie.Need-mul-t13 Inv-loop μ-loop
+mul-t13 c = omega arith
 
-shared-slice-read-smaller : tie.Need-shared-slice-read-smaller Inv-loop μ-loop
-shared-slice-read-smaller c = omega arith
+shared-slice-read-t15 : tie.Need-shared-slice-read-t15 Inv-loop μ-loop
+shared-slice-read-t15 c = omega arith
 
-sub-smaller : tie.Need-sub-smaller Inv-loop μ-loop
-sub-smaller c = omega arith
+sub-t17 : tie.Need-sub-t17 Inv-loop μ-loop
+sub-t17 c = omega arith
 
-mul-smaller-2 : tie.Need-mul-smaller-2 Inv-loop μ-loop
-mul-smaller-2 c = omega arith
+mul-t18 : tie.Need-mul-t18 Inv-loop μ-loop
+mul-t18 c = omega arith
 
-shared-slice-read-smaller-2 : tie.Need-shared-slice-read-smaller-2 Inv-loop μ-loop
-shared-slice-read-smaller-2 c = omega arith
+shared-slice-read-t20 : tie.Need-shared-slice-read-t20 Inv-loop μ-loop
+shared-slice-read-t20 c = omega arith
 
 smaller-requires : tie.Need-smaller-requires Inv-loop μ-loop
 smaller-requires c κs = search needs
@@ -67,11 +67,11 @@ narrow-spec =
     μ-loop
     loop-holds
     mul-if1
-    mul-smaller
-    shared-slice-read-smaller
-    sub-smaller
-    mul-smaller-2
-    shared-slice-read-smaller-2
+    mul-t13
+    shared-slice-read-t15
+    sub-t17
+    mul-t18
+    shared-slice-read-t20
     smaller-requires
     smaller-requires-2
     add-left

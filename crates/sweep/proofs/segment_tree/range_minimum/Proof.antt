@@ -82,8 +82,8 @@ mul-t16 c =
       levels-fit _ _ _ (start .pre .power) (start .pre .tree .room) (start .good .0 .0),
     )
 
-add-t18 : tie.Need-add-t18
-add-t18 c =
+add-t17 : tie.Need-add-t17
+add-t17 c =
     let start = c .before .before .before .before .before .before .before .before .before .before in
     omega (
       arith,
@@ -93,8 +93,8 @@ add-t18 c =
       levels-fit _ _ _ (start .pre .power) (start .pre .tree .room) (start .good .0 .0),
     )
 
-cast-t19 : tie.Need-cast-t19
-cast-t19 c =
+cast-t18 : tie.Need-cast-t18
+cast-t18 c =
     let start = c .before .before .before .before .before .before .before .before .before .before in
     omega (
       arith,
@@ -128,6 +128,6 @@ range-minimum-spec =
     levels-inside-requires-3
     sub-t15
     mul-t16
-    add-t18
-    cast-t19
+    add-t17
+    cast-t18
     returns-2)

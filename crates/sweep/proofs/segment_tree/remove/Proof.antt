@@ -8,7 +8,7 @@ use Rattle.sweep.proofs.segment_tree.remove.Statement.{statement}
 use Rattle.sweep.proofs.segment_tree.remove.Tie as tie
 
 abbrev Inv-loop : tie.InvT-loop
-Inv-loop nodes₀ shape slot node₀ least₀ nodes node least = Removing (shape .kept) (shape .width) nodes₀ nodes node least
+Inv-loop nodes₀ shape slot node₀ least₀ nodes node least = Removing (shape .kept) (shape .width) nodes₀ nodes node (least .0)
 
 abbrev μ-loop : tie.MeasureT-loop
 μ-loop nodes₀ shape slot node₀ least₀ nodes node least = node
@@ -28,20 +28,20 @@ loop-holds c = removing-slot _ _ _ _ (c .before .before .pre .0) (c .before .bef
 mul-if1 : tie.Need-mul-if1 Inv-loop μ-loop
 mul-if1 c = omega arith
 
-mul-smaller : tie.Need-mul-smaller Inv-loop μ-loop
-mul-smaller c = omega arith
+mul-t9 : tie.Need-mul-t9 Inv-loop μ-loop
+mul-t9 c = omega arith
 
-add-smaller : tie.Need-add-smaller Inv-loop μ-loop
-add-smaller c = omega arith
+add-t11 : tie.Need-add-t11 Inv-loop μ-loop
+add-t11 c = omega arith
 
-sub-smaller : tie.Need-sub-smaller Inv-loop μ-loop
-sub-smaller c = omega arith
+sub-t12 : tie.Need-sub-t12 Inv-loop μ-loop
+sub-t12 c = omega arith
 
-mul-smaller-2 : tie.Need-mul-smaller-2 Inv-loop μ-loop
-mul-smaller-2 c = omega arith
+mul-t13 : tie.Need-mul-t13 Inv-loop μ-loop
+mul-t13 c = omega arith
 
-slice-read-smaller : tie.Need-slice-read-smaller Inv-loop μ-loop
-slice-read-smaller c = omega arith
+slice-read-t15 : tie.Need-slice-read-t15 Inv-loop μ-loop
+slice-read-t15 c = omega arith
 
 smaller-requires : tie.Need-smaller-requires Inv-loop μ-loop
 smaller-requires c κs = search needs
@@ -75,11 +75,11 @@ remove-spec =
     slice-write-nodes
     loop-holds
     mul-if1
-    mul-smaller
-    add-smaller
-    sub-smaller
-    mul-smaller-2
-    slice-read-smaller
+    mul-t9
+    add-t11
+    sub-t12
+    mul-t13
+    slice-read-t15
     smaller-requires
     mul-nodes-2
     slice-write-nodes-2
