@@ -53,7 +53,8 @@ abbrev pub PlanOutcome : List ℕ → List ℕ → List ℕ → List ℕ → Lis
 PlanOutcome parents tops bottoms marks partners printed work =
     PlannedAs (Planning.planVerdict (tableOf parents tops bottoms marks) (length partners) (length printed) (length work)) (tableOf parents tops bottoms marks) partners printed work
 
--- *Whole run*: the length answered, and the output as it is left
+-- *Whole run*: the length answered, and the output as it is left. That *Plan* accepts what was read, and that the lines are what it hands back, are laws of the crate
+-- `run`: Sound `read-accepted`, OfPlan `run-prints-plan`
 pub record RunOutcome (input output : List ℕ) (r : ℕ) (output′ : List ℕ) : Type 0 where
   pub answered : r ≡ runLength input output
   pub written : output′ ≡ runOutput input output

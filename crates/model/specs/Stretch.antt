@@ -51,4 +51,5 @@ numbersOf s xs ys = take (lengthOf s) (begun s xs ys)
 -- what is given back holds the shared stretch of the two lists, and is borrowed from the start of the list that it begins
 pub record StretchOutcome (first second given : RefT (List ℕ)) : Type 0 where
   pub holds : now given ≡ numbersOf (stretchOf (now first) (now second)) (now first) (now second)
+  -- `ptr` is a block and an offset in it, so that the answer starts where the list starts
   pub borrowed : ptr given ≡ begun (stretchOf (now first) (now second)) (ptr first) (ptr second)

@@ -8,7 +8,7 @@ ghost use lib.ListN.{length};
 ghost use Rattle.model.specs.Jobs.{jobLimit};
 ghost use Rattle.sweep_laws.specs.SegmentTree.{SegmentTree, Clearable, Cleared, Insertable, Inserted, Removed, Searchable, Minimum};
 ghost use Rattle.sweep_laws.specs.NodeSpans.{leastOf, nodeAt};
-ghost use Rattle.sweep_laws.specs.RangeMinimum.{Climbable, Climbing, Rounded, Meetable};
+ghost use Rattle.sweep_laws.specs.RangeMinimum.{Narrowable, Narrowing, Rounded, Meetable};
 ghost use Rattle.sweep_laws.specs.VisitCount.{levelsInside};
 ghost use Rattle.sweep_laws.specs.Levels.{ShapeFor};
 
@@ -138,8 +138,8 @@ struct Span {
 // Narrows a span of nodes, level by level up to the uppermost that is kept: the first and the last node are taken in, and what is left is the span of
 // their parents.
 fn narrow(nodes: &[u16], shape: Shape, from: usize, to: usize) -> Span
-    requires { ⌜ Climbable (shape .kept) (shape .width) (now nodes) from to ⌝ }
-    ensures { λ r. ⌜ Climbing (shape .kept) (shape .width) (now (nodes .entry)) from to (r .left) (r .right) (r .least .0) (r .level) ⌝ }
+    requires { ⌜ Narrowable (shape .kept) (shape .width) (now nodes) from to ⌝ }
+    ensures { λ r. ⌜ Narrowing (shape .kept) (shape .width) (now (nodes .entry)) from to (r .left) (r .right) (r .least .0) (r .level) ⌝ }
 {
     let mut left = from;
     let mut right = to;

@@ -31,23 +31,23 @@ rounded-parents left₀ right₀ left right level h c =
     }
 
 -- a search that has come up to a level, from the nodes left₀ and right₀ to the nodes left and right
-pub record Climbing (kept width : ℕ) (nodes : List ℕ) (left₀ right₀ left right best level : ℕ) : Type 0 where
+pub record Narrowing (kept width : ℕ) (nodes : List ℕ) (left₀ right₀ left right best level : ℕ) : Type 0 where
   pub span : Narrowed kept width nodes left₀ right₀ left right best
   pub rounded : Rounded left₀ right₀ left right level
 
 -- the nodes of a span that is to be searched
-pub record Climbable (kept width : ℕ) (nodes : List ℕ) (left right : ℕ) : Type 0 where
+pub record Narrowable (kept width : ℕ) (nodes : List ℕ) (left right : ℕ) : Type 0 where
   pub tree : SegmentTree kept width nodes
   pub from-kept : kept ≤ left
   pub order : left ≤ right
   pub within : right ≤ 2 * width
 
-module _ (kept width : ℕ) (nodes : List ℕ) (left₀ right₀ : ℕ) (b : Climbable kept width nodes left₀ right₀) where
-  pub climbing-first : Climbing kept width nodes left₀ right₀ left₀ right₀ FFFF 0
-  climbing-first = record { span = narrowed-first kept width nodes left₀ right₀ (b .from-kept) (b .order) (b .within); rounded = rounded-first left₀ right₀ (b .order) }
+module _ (kept width : ℕ) (nodes : List ℕ) (left₀ right₀ : ℕ) (b : Narrowable kept width nodes left₀ right₀) where
+  pub narrowing-first : Narrowing kept width nodes left₀ right₀ left₀ right₀ FFFF 0
+  narrowing-first = record { span = narrowed-first kept width nodes left₀ right₀ (b .from-kept) (b .order) (b .within); rounded = rounded-first left₀ right₀ (b .order) }
 
-  pub climbing-parents : (left right best level : ℕ) → 2 * kept ≤ left → left < right → Climbing kept width nodes left₀ right₀ left right best level → Climbing kept width nodes left₀ right₀ ((left + 1) / 2) (right / 2) (min best (min (nodeAt nodes left) (nodeAt nodes (right - 1)))) (level + 1)
-  climbing-parents left right best level below h c =
+  pub narrowing-parents : (left right best level : ℕ) → 2 * kept ≤ left → left < right → Narrowing kept width nodes left₀ right₀ left right best level → Narrowing kept width nodes left₀ right₀ ((left + 1) / 2) (right / 2) (min best (min (nodeAt nodes left) (nodeAt nodes (right - 1)))) (level + 1)
+  narrowing-parents left right best level below h c =
       record {
         span = narrowed-parents kept width nodes (b .tree) left₀ right₀ left right best below h (c .span);
         rounded = rounded-parents left₀ right₀ left right level h (c .rounded);
@@ -77,18 +77,18 @@ module _ (left₀ right₀ level₀ : ℕ) where
 
 -- a search of the slots from `from` up to `to`, that has come to the nodes left and right and on to where the ends meet
 module _ (kept width : ℕ) (nodes : List ℕ) (s : SegmentTree kept width nodes) (from to : ℕ) (some : from < to) (top : to ≤ width) where
-  pub slots-climbable : Climbable kept width nodes (width + from) (width + to)
-  slots-climbable = record { tree = s; from-kept = omega (arith, s .within); order = omega arith; within = omega arith }
+  pub slots-narrowable : Narrowable kept width nodes (width + from) (width + to)
+  slots-narrowable = record { tree = s; from-kept = omega (arith, s .within); order = omega arith; within = omega arith }
 
-  module _ (left right best level : ℕ) (c : Climbing kept width nodes (width + from) (width + to) left right best level) where
+  module _ (left right best level : ℕ) (c : Narrowing kept width nodes (width + from) (width + to) left right best level) where
     -- what is left lies along one level
-    pub climbed-place : (answer : ℕ) → answer ≡ min best (leastOf (nodeAt nodes) left (right - left)) → answer ≡ smallest (entriesIn width nodes) from to
-    climbed-place answer e =
+    pub narrowed-place : (answer : ℕ) → answer ≡ min best (leastOf (nodeAt nodes) left (right - left)) → answer ≡ smallest (entriesIn width nodes) from to
+    narrowed-place answer e =
         let span : width + to - (width + from) ≡ to - from = omega arith in
         e ∙ sym (c .span .same) ∙ rw span (slots-smallest kept width nodes s from to top)
 
     -- and the visits are told by where the ends meet
-    pub climbed-visits : (k node met : ℕ) → width ≡ 2 ^ k → k ≤ 64 → ((first last : ℕ) → Rounded first last left right level → Rounded first last node node met) → VisitsMet k from to (width + from) (width + to) met node
-    climbed-visits k node met power fits m =
+    pub narrowed-visits : (k node met : ℕ) → width ≡ 2 ^ k → k ≤ 64 → ((first last : ℕ) → Rounded first last left right level → Rounded first last node node met) → VisitsMet k from to (width + from) (width + to) met node
+    narrowed-visits k node met power fits m =
         let r : Rounded (width + from) (width + to) node node met = m (width + from) (width + to) (c .rounded) in
         visits-met k from to (width + from) (width + to) met node fits some (omega arith) (ap (λ (n : ℕ). n + from) power) (ap (λ (n : ℕ). n + to) power) (r .left-is) (r .right-is)

@@ -2,18 +2,18 @@
 use borrow.Author.Needs.{needs}
 use native.Mathlib.Omega.{arith}
 use borrow.Author.Tests.{leb-true}
-use Rattle.sweep_laws.specs.RangeMinimum.{Climbing, climbing-first, climbing-parents}
+use Rattle.sweep_laws.specs.RangeMinimum.{Narrowing, narrowing-first, narrowing-parents}
 use Rattle.sweep.proofs.segment_tree.narrow.Statement.{statement}
 use Rattle.sweep.proofs.segment_tree.narrow.Tie as tie
 
 abbrev Inv-loop : tie.InvT-loop
-Inv-loop nodes shape from to left₀ right₀ least₀ level₀ left right least level = Climbing (shape .kept) (shape .width) nodes from to left right (least .0) level
+Inv-loop nodes shape from to left₀ right₀ least₀ level₀ left right least level = Narrowing (shape .kept) (shape .width) nodes from to left right (least .0) level
 
 abbrev μ-loop : tie.MeasureT-loop
 μ-loop nodes shape from to left₀ right₀ least₀ level₀ left right least level = right
 
 loop-holds : tie.Need-loop-holds Inv-loop μ-loop
-loop-holds c = climbing-first _ _ _ _ _ (c .before .pre)
+loop-holds c = narrowing-first _ _ _ _ _ (c .before .pre)
 
 mul-if1 : tie.Need-mul-if1 Inv-loop μ-loop
 mul-if1 c = omega arith
@@ -51,7 +51,7 @@ loop-less c = omega arith
 loop-again : tie.Need-loop-again Inv-loop μ-loop
 loop-again c =
     rw (c .smaller2 .ensures, c .before .smaller .ensures)
-    (climbing-parents _ _ _ _ _ (c .before .before .before .before .before .before .before .before .before .pre) _ _ _ _ (leb-true _ _ (c .before .before .before .before .if1 .taken)) (c .before .before .before .before .before .before .loop-test .taken) (c .before .before .before .before .before .before .before .loop .inv))
+    (narrowing-parents _ _ _ _ _ (c .before .before .before .before .before .before .before .before .before .pre) _ _ _ _ (leb-true _ _ (c .before .before .before .before .if1 .taken)) (c .before .before .before .before .before .before .loop-test .taken) (c .before .before .before .before .before .before .before .loop .inv))
 
 returns : tie.Need-returns Inv-loop μ-loop
 returns c = c .before .before .before .loop .inv

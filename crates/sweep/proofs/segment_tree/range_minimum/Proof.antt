@@ -8,7 +8,7 @@ use Rattle.sweep_laws.specs.EntryLaws.{smallest-empty}
 use Rattle.sweep_laws.specs.VisitBound.{visits-empty}
 use Rattle.sweep_laws.specs.Levels.{levels-fit}
 use Rattle.sweep_laws.specs.VisitLevels.{inside-small, VisitsMet}
-use Rattle.sweep_laws.specs.RangeMinimum.{slots-climbable, climbed-place, climbed-visits}
+use Rattle.sweep_laws.specs.RangeMinimum.{slots-narrowable, narrowed-place, narrowed-visits}
 use Rattle.sweep.proofs.segment_tree.range_minimum.Statement.{statement}
 use Rattle.sweep.proofs.segment_tree.range_minimum.Tie as tie
 
@@ -18,7 +18,7 @@ met : (c : tie.After-meet-at) →
     VisitsMet (start .args .shape .levels) (start .args .from) (start .args .to) (start .args .shape .width + start .args .from) (start .args .shape .width + start .args .to) (c .meet-at .result .level) (c .meet-at .result .node)
 met c =
     let start = c .before .before .before .before .before .before .before .before .before in
-    climbed-visits _ _ _ (start .pre .tree) _ _ (c .before .before .before .before .before .before .before .if1 .left) (start .pre .inside) _ _ _ _ (c .before .before .narrow .ensures) _ _ _
+    narrowed-visits _ _ _ (start .pre .tree) _ _ (c .before .before .before .before .before .before .before .if1 .left) (start .pre .inside) _ _ _ _ (c .before .before .narrow .ensures) _ _ _
     (start .pre .power)
     (omega (arith, levels-fit _ _ _ (start .pre .power) (start .pre .tree .room) (start .good .0 .0)))
     (c .meet-at .ensures)
@@ -55,7 +55,7 @@ add-ends c =
     )
 
 narrow-requires : tie.Need-narrow-requires
-narrow-requires c κs = slots-climbable _ _ _ (c .before .before .before .before .before .before .pre .tree) _ _ (c .before .before .before .before .if1 .left) (c .before .before .before .before .before .before .pre .inside)
+narrow-requires c κs = slots-narrowable _ _ _ (c .before .before .before .before .before .before .pre .tree) _ _ (c .before .before .before .before .if1 .left) (c .before .before .before .before .before .before .pre .inside)
 
 along-requires : tie.Need-along-requires
 along-requires c κs = omega (arith, c .narrow .ensures .span .within, c .before .before .before .before .before .before .before .pre .tree .room)
@@ -108,7 +108,7 @@ returns-2 : tie.Need-returns-2
 returns-2 c =
     let start = c .before .before .before .before .before .before .before .before .before .before in
     record {
-      place-is = climbed-place _ _ _ (start .pre .tree) _ _ (c .before .before .before .before .before .before .before .before .if1 .left) (start .pre .inside) _ _ _ _ (c .before .before .before .narrow .ensures) _ (c .before .before .along .ensures);
+      place-is = narrowed-place _ _ _ (start .pre .tree) _ _ (c .before .before .before .before .before .before .before .before .if1 .left) (start .pre .inside) _ _ _ _ (c .before .before .before .narrow .ensures) _ (c .before .before .along .ensures);
       visits-are = omega (arith, met (c .before) .visits-are, c .levels-inside3 .ensures, c .before .before .before .before .levels-inside2 .ensures, c .before .before .before .before .before .levels-inside .ensures);
     }
 
