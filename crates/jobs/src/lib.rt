@@ -39,10 +39,10 @@ fn check_job(tree: &[u16; TREE], layouts: usize, top: LayoutNumber, bottom: Layo
     requires { ⌜ layouts ≤ layoutLimit ⌝ }
     ensures { λ r. ⌜ JobChecked layouts (top .0) (bottom .0) (now (tree .entry)) r ⌝ }
 {
-    if layouts <= top.0 as usize {
+    if !top.is_among(layouts) {
         return 5;
     }
-    if layouts <= bottom.0 as usize {
+    if !bottom.is_among(layouts) {
         return 5;
     }
     if settle::is_ancestor(tree, top, bottom) {

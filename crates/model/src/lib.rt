@@ -1,4 +1,7 @@
 // The numbers and answers that every part of the planner speaks in, and, in specs/, what document 01 says of them.
+ghost use mathlib.Core.Path.{_≡_};
+ghost use lib.Dec.{eqb, ltb};
+ghost use Rattle.model.specs.Tree.{FFFF};
 
 // What stands for no layout and no job: FFFF in the table and in every lent buffer.
 pub const ABSENT: u16 = 0xFFFF;
@@ -9,6 +12,34 @@ pub struct LayoutNumber(pub u16);
 impl LayoutNumber {
     // At most 1,024 layouts.
     pub const LIMIT: usize = 1024;
+
+    // Whether it stands for no layout.
+    pub fn is_none(self) -> bool
+        ensures { λ r. ⌜ r ≡ eqb (self .0) FFFF ⌝ }
+    {
+        self.0 == ABSENT
+    }
+
+    // Whether it is the same layout as another.
+    pub fn equals(self, other: LayoutNumber) -> bool
+        ensures { λ r. ⌜ r ≡ eqb (self .0) (other .0) ⌝ }
+    {
+        self.0 == other.0
+    }
+
+    // Whether it comes before another in line order.
+    pub fn comes_before(self, other: LayoutNumber) -> bool
+        ensures { λ r. ⌜ r ≡ ltb (self .0) (other .0) ⌝ }
+    {
+        self.0 < other.0
+    }
+
+    // Whether it is one of so many layouts, numbered from 0.
+    pub fn is_among(self, layouts: usize) -> bool
+        ensures { λ r. ⌜ r ≡ ltb (self .0) layouts ⌝ }
+    {
+        (self.0 as usize) < layouts
+    }
 }
 
 // The number of a job, a downward path in the tree.

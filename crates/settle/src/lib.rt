@@ -77,10 +77,10 @@ pub fn is_ancestor(tree: &[u16; TREE], u: LayoutNumber, x: LayoutNumber) -> bool
 pub fn right_parent(x: LayoutNumber, p: LayoutNumber) -> bool
     ensures { λ r. ⌜ r ≡ rightParent (x .0) (p .0) ⌝ }
 {
-    if x.0 == 0 {
-        return p.0 == model::ABSENT;
+    if x.equals(LayoutNumber(0)) {
+        return p.is_none();
     }
-    p.0 < x.0
+    p.comes_before(x)
 }
 
 // The first layout whose parent is wrong, or how many layouts there are.
@@ -118,7 +118,7 @@ pub fn check_layouts(parents: &[u16]) -> Settled
         return refuse(4, 0);
     }
     let wrong = first_wrong(parents);
-    if (wrong.0 as usize) < count {
+    if wrong.is_among(count) {
         return refuse(4, wrong.0);
     }
     Settled::Done

@@ -36,7 +36,8 @@ fn position_of(layout: LayoutNumber, list: &[u16]) -> usize
 {
     let mut position = 0;
     while position < list.len() {
-        if list[position] == layout.0 {
+        let here = list[position];
+        if LayoutNumber(here).equals(layout) {
             return position;
         }
         position += 1;

@@ -1,5 +1,6 @@
 -- `settle::check_layouts` meets its contract: one law of the verdict at each return.
-use mathlib.Core.Path.{_∙_}
+use mathlib.Core.Path.{sym, _∙_}
+use borrow.Author.Tests.{ltb-true, ltb-false}
 use Rattle.settle.proofs.Outcome.{too-many, no-layouts, wrong-layout, all-right}
 use borrow.Author.Needs.{needs}
 use Rattle.settle.proofs.check_layouts.Statement.{statement}
@@ -20,17 +21,17 @@ returns-2 c = c .refuse2 .ensures ∙ no-layouts (c .before .before .before .bef
 first-wrong-requires : tie.Need-first-wrong-requires
 first-wrong-requires c κs = search needs
 
-cast-if3 : tie.Need-cast-if3
-cast-if3 c = search needs
+is-among-requires : tie.Need-is-among-requires
+is-among-requires c κs = search needs
 
 refuse-requires-3 : tie.Need-refuse-requires-3
 refuse-requires-3 c κs = search needs
 
 returns-3 : tie.Need-returns-3
-returns-3 c = c .refuse3 .ensures ∙ wrong-layout _ (c .before .before .before .before .before .if1 .left) (c .before .before .before .before .if2 .left) _ (c .before .before .before .first-wrong .ensures) (c .before .if3 .taken)
+returns-3 c = c .refuse3 .ensures ∙ wrong-layout _ (c .before .before .before .before .before .if1 .left) (c .before .before .before .before .if2 .left) _ (c .before .before .before .first-wrong .ensures) (ltb-true _ _ (sym (c .before .before .is-among .ensures) ∙ c .before .if3 .taken))
 
 returns-4 : tie.Need-returns-4
-returns-4 c = all-right _ (c .before .before .before .before .if1 .left) (c .before .before .before .if2 .left) _ (c .before .before .first-wrong .ensures) (c .if3 .left)
+returns-4 c = all-right _ (c .before .before .before .before .if1 .left) (c .before .before .before .if2 .left) _ (c .before .before .first-wrong .ensures) (ltb-false _ _ (sym (c .before .is-among .ensures) ∙ c .if3 .left))
 
 pub check-layouts-spec : {M : Type 1} → statement M
 check-layouts-spec =
@@ -41,7 +42,7 @@ check-layouts-spec =
     refuse-requires-2
     returns-2
     first-wrong-requires
-    cast-if3
+    is-among-requires
     refuse-requires-3
     returns-3
     returns-4)

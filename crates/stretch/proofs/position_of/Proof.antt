@@ -1,8 +1,9 @@
 -- `position_of` answers the first position: none of the numbers walked is the one sought, so their count and the position in what remains make the
 -- position in the whole list. The measure is what is left of the length.
 use Prim.Native.Nat.{_+_, _-_}
-use mathlib.Core.Path.{_≡_}
+use mathlib.Core.Path.{_≡_, sym, _∙_}
 use borrow.Author.Needs.{needs}
+use borrow.Author.Tests.{eqb-true, eqb-false}
 use denote.Ref.{now}
 use lib.ListN.{length, drop}
 use Rattle.model.specs.Lists.{indexOf}
@@ -19,18 +20,21 @@ abbrev μ-loop : tie.MeasureT-loop
 loop-holds : tie.Need-loop-holds Inv-loop μ-loop
 loop-holds c = search needs
 
-mul-if1 : tie.Need-mul-if1 Inv-loop μ-loop
-mul-if1 c = search needs
+mul-here : tie.Need-mul-here Inv-loop μ-loop
+mul-here c = search needs
 
-shared-slice-read-if1 : tie.Need-shared-slice-read-if1 Inv-loop μ-loop
-shared-slice-read-if1 c = search needs
+shared-slice-read-here : tie.Need-shared-slice-read-here Inv-loop μ-loop
+shared-slice-read-here c = search needs
+
+equals-requires : tie.Need-equals-requires Inv-loop μ-loop
+equals-requires c κs = search needs
 
 returns : tie.Need-returns Inv-loop μ-loop
 returns c =
     let turn = c .before .before .before in
     let at-loop = turn .before in
-    let args = at-loop .before .args in
-    place-found (args .layout .0) (now (args .list)) (at-loop .loop .position) (at-loop .loop .inv) (turn .loop-test .taken) (c .if1 .taken)
+    let args = at-loop .before .before .args in
+    place-found (args .layout .0) (now (args .list)) (at-loop .loop .position) (at-loop .loop .inv) (turn .loop-test .taken) (eqb-true _ _ (sym (c .before .equals .ensures) ∙ c .if1 .taken))
 
 add-position : tie.Need-add-position Inv-loop μ-loop
 add-position c = search needs
@@ -42,13 +46,13 @@ loop-again : tie.Need-loop-again Inv-loop μ-loop
 loop-again c =
     let turn = c .before .before .before in
     let at-loop = turn .before in
-    let args = at-loop .before .args in
-    place-next (args .layout .0) (now (args .list)) (at-loop .loop .position) (at-loop .loop .inv) (turn .loop-test .taken) (c .if1 .left)
+    let args = at-loop .before .before .args in
+    place-next (args .layout .0) (now (args .list)) (at-loop .loop .position) (at-loop .loop .inv) (turn .loop-test .taken) (eqb-false _ _ (sym (c .before .equals .ensures) ∙ c .if1 .left))
 
 returns-2 : tie.Need-returns-2 Inv-loop μ-loop
 returns-2 c =
     let at-loop = c .before in
-    let args = at-loop .before .args in
+    let args = at-loop .before .before .args in
     place-absent (args .layout .0) (now (args .list)) (at-loop .loop .position) (at-loop .loop .inv) (c .loop-test .left)
 
 pub position-of-spec : {M : Type 1} → statement M
@@ -58,8 +62,9 @@ position-of-spec =
     Inv-loop
     μ-loop
     loop-holds
-    mul-if1
-    shared-slice-read-if1
+    mul-here
+    shared-slice-read-here
+    equals-requires
     returns
     add-position
     loop-less
