@@ -53,6 +53,22 @@ impl JobNumber {
 // A place in the running order (000: a position in the bottom-up enumeration).
 pub struct Rank(pub u16);
 
+impl Rank {
+    // Whether it stands for no place.
+    pub fn is_none(self) -> bool
+        ensures { λ r. ⌜ r ≡ eqb (self .0) FFFF ⌝ }
+    {
+        self.0 == ABSENT
+    }
+
+    // Whether it comes before another in the running order; none comes after every place.
+    pub fn comes_before(self, other: Rank) -> bool
+        ensures { λ r. ⌜ r ≡ ltb (self .0) (other .0) ⌝ }
+    {
+        self.0 < other.0
+    }
+}
+
 // Why an input is turned away: document 01's number, and the place.
 pub struct Refusal {
     pub number: u16,

@@ -89,7 +89,7 @@ pub fn pass_at(
     let count = bottoms.len();
     let opener = opener_at(work, count, k);
     let mate = mate_at(work, count, opener);
-    if mate.0 == model::ABSENT {
+    if mate.is_none() {
         return Pass::Single(job_at(work, opener));
     }
     pair_of(

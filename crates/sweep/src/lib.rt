@@ -84,7 +84,7 @@ fn match_place(work: &mut [u16], count: usize, shape: Shape, place: Rank, to: us
     let start = TREE * count;
     let found = segment_tree::range_minimum(&work[start..], shape, from, to);
     let mate = found.place;
-    if mate.0 == model::ABSENT {
+    if mate.is_none() {
         schedule::set_mate(work, count, place, mate);
         return found;
     }
@@ -106,7 +106,7 @@ fn step(work: &mut [u16], count: usize, shape: Shape, place: Rank, progress: Pro
     if 0 < to {
         let found = match_place(work, count, shape, place, to);
         schedule::set_opener(work, count, passes, place);
-        if found.place.0 == model::ABSENT {
+        if found.place.is_none() {
             return Progress {
                 next,
                 passes: passes + 1,
@@ -122,7 +122,7 @@ fn step(work: &mut [u16], count: usize, shape: Shape, place: Rank, progress: Pro
         };
     }
     let mate = schedule::mate_at(work, count, place);
-    if mate.0 != model::ABSENT {
+    if !mate.is_none() {
         return Progress {
             next,
             passes,

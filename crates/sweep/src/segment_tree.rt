@@ -56,7 +56,7 @@ pub fn shape_for(count: usize) -> Shape
 fn smaller(a: Rank, b: Rank) -> Rank
     ensures { λ r. ⌜ r .0 ≡ min (a .0) (b .0) ⌝ }
 {
-    if a.0 < b.0 {
+    if a.comes_before(b) {
         return a;
     }
     b

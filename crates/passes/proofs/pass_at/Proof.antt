@@ -1,6 +1,7 @@
 -- `passes::pass_at` meets its contract: the opener has a mate or none.
 use mathlib.Core.Path.{refl, sym, _∙_}
 use borrow.Author.Needs.{needs}
+use borrow.Author.Tests.{eqb-true, eqb-false}
 use Rattle.passes.proofs.pass_at.Statement.{statement}
 use Rattle.passes.proofs.pass_at.Tie as tie
 use Rattle.schedule.proofs.job_at.Reads as job-at-reads
@@ -13,6 +14,9 @@ opener-at-requires c κs = search needs
 mate-at-requires : tie.Need-mate-at-requires
 mate-at-requires c κs = search needs
 
+is-none-requires : tie.Need-is-none-requires
+is-none-requires c κs = search needs
+
 job-at-requires : tie.Need-job-at-requires
 job-at-requires c κs = search needs
 
@@ -21,7 +25,7 @@ returns c =
     let mate = rw (c .before .before .before .before .opener-at .ensures) at (c .before .before .before .mate-at .ensures) in
     record {
       alone = λ e. rw (c .before .before .before .before .opener-at .ensures) at (c .job-at .ensures);
-      paired = λ n. absurd (n (sym mate ∙ c .before .if1 .taken));
+      paired = λ n. absurd (n (sym mate ∙ eqb-true _ _ (sym (c .before .before .is-none .ensures) ∙ c .before .if1 .taken)));
     }
 
 job-at-requires-2 : tie.Need-job-at-requires-2
@@ -31,7 +35,7 @@ job-at-requires-3 : tie.Need-job-at-requires-3
 job-at-requires-3 c κs =
     let mate = rw (c .before .before .before .before .opener-at .ensures) at (c .before .before .before .mate-at .ensures) in
     let cells = c .before .before .before .before .before .before .before .before .pre .1 .1 in
-    rw mate (cells .order-inside _ (cells .mate-place (λ e. c .before .if1 .left (mate ∙ e))))
+    rw mate (cells .order-inside _ (cells .mate-place (λ e. eqb-false _ _ (sym (c .before .before .is-none .ensures) ∙ c .before .if1 .left) (mate ∙ e))))
 
 pair-of-requires : tie.Need-pair-of-requires
 pair-of-requires c κs =
@@ -39,7 +43,7 @@ pair-of-requires c κs =
     let cells = c .before .before .before .before .before .before .before .before .before .pre .1 .1 in
     let one = rw (c .before .before .before .before .before .opener-at .ensures) at (c .before .job-at2 .ensures) in
     let other = rw mate at (c .job-at3 .ensures) in
-    let place = cells .mate-place (λ e. c .before .before .if1 .left (mate ∙ e)) in (
+    let place = cells .mate-place (λ e. eqb-false _ _ (sym (c .before .before .before .is-none .ensures) ∙ c .before .before .if1 .left) (mate ∙ e)) in (
       c .before .before .before .before .before .before .before .before .before .pre .0,
       (
         c .before .before .before .before .before .before .before .before .before .pre .1 .0,
@@ -58,7 +62,7 @@ returns-2 c =
     let one = rw (c .before .before .before .before .before .before .opener-at .ensures) at (c .before .before .job-at2 .ensures) in
     let other = rw mate at (c .before .job-at3 .ensures) in
     record {
-      alone = λ e. absurd (c .before .before .before .if1 .left (mate ∙ e));
+      alone = λ e. absurd (eqb-false _ _ (sym (c .before .before .before .before .is-none .ensures) ∙ c .before .before .before .if1 .left) (mate ∙ e));
       paired = λ n. rw (one, other) at (c .pair-of .ensures);
     }
 
@@ -68,6 +72,7 @@ pass-at-spec =
     (tie.spec
     opener-at-requires
     mate-at-requires
+    is-none-requires
     job-at-requires
     returns
     job-at-requires-2

@@ -1,5 +1,7 @@
 -- The place leaves the tree, the search answers the greedy rule's choice, and the mate leaves the tree too.
+use mathlib.Core.Path.{sym, _∙_}
 use borrow.Author.Needs.{needs}
+use borrow.Author.Tests.{eqb-true, eqb-false}
 use native.Mathlib.Omega.{arith}
 use Rattle.sweep_laws.specs.Asking.{asking-removable, asking-room, asking-searchable, asked-alone, mate-removable, mate-pairable, asked-pair}
 use Rattle.sweep.proofs.match_place.Statement.{statement}
@@ -29,6 +31,9 @@ part-range-minimum-end c = search needs
 range-minimum-requires : tie.Need-range-minimum-requires
 range-minimum-requires c κs = let p = c .before .before .before .before .before .before .before .before .before .pre in asking-searchable _ _ _ _ _ _ _ _ _ (p .2) _ (c .before .before .before .before .before .before .remove-place .ensures)
 
+is-none-requires : tie.Need-is-none-requires
+is-none-requires c κs = search needs
+
 set-mate-requires : tie.Need-set-mate-requires
 set-mate-requires c κs = let p = c .before .before .before .before .before .before .before .before .before .before .before .before .before .before .pre in omega (arith, asking-room _ _ _ _ _ _ _ _ _ (p .2) _ (c .before .before .before .before .before .before .before .before .before .before .before .remove-place .ensures), p .2 .inside)
 
@@ -38,17 +43,17 @@ same-length c = search needs
 returns : tie.Need-returns
 returns c = λ s next a.
     rw (c .before .before .set-mate .ensures)
-    (asked-alone _ _ _ _ _ _ _ _ _ a _ (c .before .before .before .before .before .before .before .before .before .before .before .before .before .before .remove-place .ensures) _ _ _ (c .before .before .before .before .before .before .before .before .before .before .from-at .ensures) (c .before .before .before .before .before .before .before .range-minimum .ensures) (c .before .before .before .before .if1 .taken))
+    (asked-alone _ _ _ _ _ _ _ _ _ a _ (c .before .before .before .before .before .before .before .before .before .before .before .before .before .before .remove-place .ensures) _ _ _ (c .before .before .before .before .before .before .before .before .before .before .from-at .ensures) (c .before .before .before .before .before .before .before .range-minimum .ensures) (eqb-true _ _ (sym (c .before .before .before .before .before .is-none .ensures) ∙ c .before .before .before .before .if1 .taken)))
 
 remove-place-requires-2 : tie.Need-remove-place-requires-2
 remove-place-requires-2 c κs =
     let p = c .before .before .before .before .before .before .before .before .before .before .before .before .before .before .pre in
-    mate-removable _ _ _ _ _ _ _ _ _ (p .2) _ (c .before .before .before .before .before .before .before .before .before .before .before .remove-place .ensures) _ _ _ (c .before .before .before .before .before .before .before .from-at .ensures) (c .before .before .before .before .range-minimum .ensures) (c .before .if1 .left)
+    mate-removable _ _ _ _ _ _ _ _ _ (p .2) _ (c .before .before .before .before .before .before .before .before .before .before .before .remove-place .ensures) _ _ _ (c .before .before .before .before .before .before .before .from-at .ensures) (c .before .before .before .before .range-minimum .ensures) (eqb-false _ _ (sym (c .before .before .is-none .ensures) ∙ c .before .if1 .left))
 
 set-pair-requires : tie.Need-set-pair-requires
 set-pair-requires c κs =
     let p = c .before .before .before .before .before .before .before .before .before .before .before .before .before .before .before .before .before .before .pre in
-    mate-pairable _ _ _ _ _ _ _ _ _ (p .2) _ (c .before .before .before .before .before .before .before .before .before .before .before .before .before .before .before .remove-place .ensures) _ _ _ (c .before .before .before .before .before .before .before .before .before .before .before .from-at .ensures) (c .before .before .before .before .before .before .before .before .range-minimum .ensures) (c .before .before .before .before .before .if1 .left) _ (c .before .before .before .remove-place2 .ensures)
+    mate-pairable _ _ _ _ _ _ _ _ _ (p .2) _ (c .before .before .before .before .before .before .before .before .before .before .before .before .before .before .before .remove-place .ensures) _ _ _ (c .before .before .before .before .before .before .before .before .before .before .before .from-at .ensures) (c .before .before .before .before .before .before .before .before .range-minimum .ensures) (eqb-false _ _ (sym (c .before .before .before .before .before .before .is-none .ensures) ∙ c .before .before .before .before .before .if1 .left)) _ (c .before .before .before .remove-place2 .ensures)
 
 same-length-2 : tie.Need-same-length-2
 same-length-2 c = search needs
@@ -56,7 +61,7 @@ same-length-2 c = search needs
 returns-2 : tie.Need-returns-2
 returns-2 c = λ s next a.
     rw (c .before .before .set-pair .ensures)
-    (asked-pair _ _ _ _ _ _ _ _ _ a _ (c .before .before .before .before .before .before .before .before .before .before .before .before .before .before .before .before .before .before .remove-place .ensures) _ _ _ (c .before .before .before .before .before .before .before .before .before .before .before .before .before .before .from-at .ensures) (c .before .before .before .before .before .before .before .before .before .before .before .range-minimum .ensures) (c .before .before .before .before .before .before .before .before .if1 .left) _ (c .before .before .before .before .before .before .remove-place2 .ensures))
+    (asked-pair _ _ _ _ _ _ _ _ _ a _ (c .before .before .before .before .before .before .before .before .before .before .before .before .before .before .before .before .before .before .remove-place .ensures) _ _ _ (c .before .before .before .before .before .before .before .before .before .before .before .before .before .before .from-at .ensures) (c .before .before .before .before .before .before .before .before .before .before .before .range-minimum .ensures) (eqb-false _ _ (sym (c .before .before .before .before .before .before .before .before .before .is-none .ensures) ∙ c .before .before .before .before .before .before .before .before .if1 .left)) _ (c .before .before .before .before .before .before .remove-place2 .ensures))
 
 pub match-place-spec : {M : Type 1} → statement M
 match-place-spec =
@@ -70,6 +75,7 @@ match-place-spec =
     part-range-minimum-start
     part-range-minimum-end
     range-minimum-requires
+    is-none-requires
     set-mate-requires
     same-length
     returns

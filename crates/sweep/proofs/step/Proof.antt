@@ -1,5 +1,7 @@
 -- Each way that the step can end leaves the sweep at the next place.
+use mathlib.Core.Path.{sym, _∙_}
 use borrow.Author.Needs.{needs}
+use borrow.Author.Tests.{eqb-true, eqb-false, not-true, not-false}
 use native.Mathlib.Omega.{arith}
 use Rattle.sweep_laws.specs.Steps.{step-asking, opener-room, step-front, step-unmatched, step-matched, quiet-order, step-taken, step-alone}
 use Rattle.sweep.proofs.step.Statement.{statement}
@@ -17,6 +19,9 @@ match-place-requires c κs = let p = c .before .before .before .before .before .
 set-opener-requires : tie.Need-set-opener-requires
 set-opener-requires c κs = let p = c .before .before .before .before .before .before .before .before .before .before .before .before .before .pre in opener-room _ _ _ _ _ _ _ _ _ _ _ (p .2) (p .1) _ _ (c .before .before .before .before .before .before .before .before .before .before .insert-reached .ensures) _ (c .before .before .before .before .before .before .to-at .ensures) (c .before .before .before .before .before .if1 .taken) _ _ _ (c .before .before .before .match-place .ensures _ _ (step-asking _ _ _ _ _ _ _ _ _ _ _ (p .2) (p .1) _ _ (c .before .before .before .before .before .before .before .before .before .before .insert-reached .ensures) _ (c .before .before .before .before .before .before .to-at .ensures) (c .before .before .before .before .before .if1 .taken)))
 
+is-none-requires : tie.Need-is-none-requires
+is-none-requires c κs = search needs
+
 add-t24 : tie.Need-add-t24
 add-t24 c = search needs
 
@@ -31,7 +36,7 @@ returns c =
     let p = c .before .before .before .before .before .before .before .before .before .before .before .before .before .before .before .before .before .before .before .pre in
     record {
       order = rw (c .before .before .before .before .before .set-opener .ensures) (step-front _ _ _ _ _ _ _ _ _ _ _ (p .2) (p .1) _ _ (c .before .before .before .before .before .before .before .before .before .before .before .before .before .before .before .before .insert-reached .ensures) _ (c .before .before .before .before .before .before .before .before .before .before .before .before .to-at .ensures) (c .before .before .before .before .before .before .before .before .before .before .before .if1 .taken) _ _ _ (c .before .before .before .before .before .before .before .before .before .match-place .ensures _ _ (step-asking _ _ _ _ _ _ _ _ _ _ _ (p .2) (p .1) _ _ (c .before .before .before .before .before .before .before .before .before .before .before .before .before .before .before .before .insert-reached .ensures) _ (c .before .before .before .before .before .before .before .before .before .before .before .before .to-at .ensures) (c .before .before .before .before .before .before .before .before .before .before .before .if1 .taken))));
-      stepped = λ s u. rw (c .before .before .before .before .before .set-opener .ensures) (step-unmatched _ _ _ _ _ _ _ _ _ _ _ u (p .1) _ _ (c .before .before .before .before .before .before .before .before .before .before .before .before .before .before .before .before .insert-reached .ensures) _ (c .before .before .before .before .before .before .before .before .before .before .before .before .to-at .ensures) (c .before .before .before .before .before .before .before .before .before .before .before .if1 .taken) _ _ _ (c .before .before .before .before .before .before .before .before .before .match-place .ensures _ _ (step-asking _ _ _ _ _ _ _ _ _ _ _ u (p .1) _ _ (c .before .before .before .before .before .before .before .before .before .before .before .before .before .before .before .before .insert-reached .ensures) _ (c .before .before .before .before .before .before .before .before .before .before .before .before .to-at .ensures) (c .before .before .before .before .before .before .before .before .before .before .before .if1 .taken))) (c .before .if2 .taken));
+      stepped = λ s u. rw (c .before .before .before .before .before .set-opener .ensures) (step-unmatched _ _ _ _ _ _ _ _ _ _ _ u (p .1) _ _ (c .before .before .before .before .before .before .before .before .before .before .before .before .before .before .before .before .insert-reached .ensures) _ (c .before .before .before .before .before .before .before .before .before .before .before .before .to-at .ensures) (c .before .before .before .before .before .before .before .before .before .before .before .if1 .taken) _ _ _ (c .before .before .before .before .before .before .before .before .before .match-place .ensures _ _ (step-asking _ _ _ _ _ _ _ _ _ _ _ u (p .1) _ _ (c .before .before .before .before .before .before .before .before .before .before .before .before .before .before .before .before .insert-reached .ensures) _ (c .before .before .before .before .before .before .before .before .before .before .before .before .to-at .ensures) (c .before .before .before .before .before .before .before .before .before .before .before .if1 .taken))) (eqb-true _ _ (sym (c .before .before .is-none .ensures) ∙ c .before .if2 .taken)));
     }
 
 add-t26 : tie.Need-add-t26
@@ -51,11 +56,14 @@ returns-2 c =
     let p = c .before .before .before .before .before .before .before .before .before .before .before .before .before .before .before .before .before .before .before .pre in
     record {
       order = rw (c .before .before .before .before .before .set-opener .ensures) (step-front _ _ _ _ _ _ _ _ _ _ _ (p .2) (p .1) _ _ (c .before .before .before .before .before .before .before .before .before .before .before .before .before .before .before .before .insert-reached .ensures) _ (c .before .before .before .before .before .before .before .before .before .before .before .before .to-at .ensures) (c .before .before .before .before .before .before .before .before .before .before .before .if1 .taken) _ _ _ (c .before .before .before .before .before .before .before .before .before .match-place .ensures _ _ (step-asking _ _ _ _ _ _ _ _ _ _ _ (p .2) (p .1) _ _ (c .before .before .before .before .before .before .before .before .before .before .before .before .before .before .before .before .insert-reached .ensures) _ (c .before .before .before .before .before .before .before .before .before .before .before .before .to-at .ensures) (c .before .before .before .before .before .before .before .before .before .before .before .if1 .taken))));
-      stepped = λ s u. rw (c .before .before .before .before .before .set-opener .ensures) (step-matched _ _ _ _ _ _ _ _ _ _ _ u (p .1) _ _ (c .before .before .before .before .before .before .before .before .before .before .before .before .before .before .before .before .insert-reached .ensures) _ (c .before .before .before .before .before .before .before .before .before .before .before .before .to-at .ensures) (c .before .before .before .before .before .before .before .before .before .before .before .if1 .taken) _ _ _ (c .before .before .before .before .before .before .before .before .before .match-place .ensures _ _ (step-asking _ _ _ _ _ _ _ _ _ _ _ u (p .1) _ _ (c .before .before .before .before .before .before .before .before .before .before .before .before .before .before .before .before .insert-reached .ensures) _ (c .before .before .before .before .before .before .before .before .before .before .before .before .to-at .ensures) (c .before .before .before .before .before .before .before .before .before .before .before .if1 .taken))) (c .before .if2 .left));
+      stepped = λ s u. rw (c .before .before .before .before .before .set-opener .ensures) (step-matched _ _ _ _ _ _ _ _ _ _ _ u (p .1) _ _ (c .before .before .before .before .before .before .before .before .before .before .before .before .before .before .before .before .insert-reached .ensures) _ (c .before .before .before .before .before .before .before .before .before .before .before .before .to-at .ensures) (c .before .before .before .before .before .before .before .before .before .before .before .if1 .taken) _ _ _ (c .before .before .before .before .before .before .before .before .before .match-place .ensures _ _ (step-asking _ _ _ _ _ _ _ _ _ _ _ u (p .1) _ _ (c .before .before .before .before .before .before .before .before .before .before .before .before .before .before .before .before .insert-reached .ensures) _ (c .before .before .before .before .before .before .before .before .before .before .before .before .to-at .ensures) (c .before .before .before .before .before .before .before .before .before .before .before .if1 .taken))) (eqb-false _ _ (sym (c .before .before .is-none .ensures) ∙ c .before .if2 .left)));
     }
 
 mate-at-requires : tie.Need-mate-at-requires
 mate-at-requires c κs = let p = c .before .before .before .before .before .before .before .before .before .pre in omega (arith, p .1, p .2 .sweeping .cells .room, c .before .before .before .before .before .before .insert-reached .ensures .front .same)
+
+is-none-requires-2 : tie.Need-is-none-requires-2
+is-none-requires-2 c κs = search needs
 
 same-length-3 : tie.Need-same-length-3
 same-length-3 c = search needs
@@ -65,14 +73,14 @@ returns-3 c =
     let p = c .before .before .before .before .before .before .before .before .before .before .before .before .pre in
     record {
       order = (quiet-order _ _ _ _ _ _ _ _ _ _ _ (p .2) (p .1) _ _ (c .before .before .before .before .before .before .before .before .before .insert-reached .ensures) _ (c .before .before .before .before .before .to-at .ensures) (c .before .before .before .before .if1 .left) _ (c .before .before .mate-at .ensures) .0);
-      stepped = λ s u. (step-taken _ _ _ _ _ _ _ _ _ _ _ u (p .1) _ _ (c .before .before .before .before .before .before .before .before .before .insert-reached .ensures) _ (c .before .before .before .before .before .to-at .ensures) (c .before .before .before .before .if1 .left) _ (c .before .before .mate-at .ensures) (c .if3 .taken));
+      stepped = λ s u. (step-taken _ _ _ _ _ _ _ _ _ _ _ u (p .1) _ _ (c .before .before .before .before .before .before .before .before .before .insert-reached .ensures) _ (c .before .before .before .before .before .to-at .ensures) (c .before .before .before .before .if1 .left) _ (c .before .before .mate-at .ensures) (eqb-false _ _ (sym (c .before .is-none2 .ensures) ∙ not-true _ (c .if3 .taken))));
     }
 
 set-opener-requires-2 : tie.Need-set-opener-requires-2
 set-opener-requires-2 c κs = let p = c .before .before .before .before .before .before .before .before .before .before .before .before .before .pre in omega (arith, p .1, p .2 .made .few-passes, p .2 .sweeping .cells .room, c .before .before .before .before .before .before .before .before .before .before .insert-reached .ensures .front .same)
 
-add-t34 : tie.Need-add-t34
-add-t34 c = search needs
+add-t35 : tie.Need-add-t35
+add-t35 c = search needs
 
 same-length-4 : tie.Need-same-length-4
 same-length-4 c = search needs
@@ -82,7 +90,7 @@ returns-4 c =
     let p = c .before .before .before .before .before .before .before .before .before .before .before .before .before .before .before .before .pre in
     record {
       order = rw (c .before .before .set-opener2 .ensures) (quiet-order _ _ _ _ _ _ _ _ _ _ _ (p .2) (p .1) _ _ (c .before .before .before .before .before .before .before .before .before .before .before .before .before .insert-reached .ensures) _ (c .before .before .before .before .before .before .before .before .before .to-at .ensures) (c .before .before .before .before .before .before .before .before .if1 .left) _ (c .before .before .before .before .before .before .mate-at .ensures) .1);
-      stepped = λ s u. rw (c .before .before .set-opener2 .ensures) (step-alone _ _ _ _ _ _ _ _ _ _ _ u (p .1) _ _ (c .before .before .before .before .before .before .before .before .before .before .before .before .before .insert-reached .ensures) _ (c .before .before .before .before .before .before .before .before .before .to-at .ensures) (c .before .before .before .before .before .before .before .before .if1 .left) _ (c .before .before .before .before .before .before .mate-at .ensures) (c .before .before .before .before .if3 .left));
+      stepped = λ s u. rw (c .before .before .set-opener2 .ensures) (step-alone _ _ _ _ _ _ _ _ _ _ _ u (p .1) _ _ (c .before .before .before .before .before .before .before .before .before .before .before .before .before .insert-reached .ensures) _ (c .before .before .before .before .before .before .before .before .before .to-at .ensures) (c .before .before .before .before .before .before .before .before .if1 .left) _ (c .before .before .before .before .before .before .mate-at .ensures) (eqb-true _ _ (sym (c .before .before .before .before .before .is-none2 .ensures) ∙ not-false _ (c .before .before .before .before .if3 .left))));
     }
 
 pub step-spec : {M : Type 1} → statement M
@@ -93,6 +101,7 @@ step-spec =
     to-at-requires
     match-place-requires
     set-opener-requires
+    is-none-requires
     add-t24
     add-t25
     same-length
@@ -103,9 +112,10 @@ step-spec =
     same-length-2
     returns-2
     mate-at-requires
+    is-none-requires-2
     same-length-3
     returns-3
     set-opener-requires-2
-    add-t34
+    add-t35
     same-length-4
     returns-4)
