@@ -1,3 +1,3 @@
--- Laws that the proofs of finding the lowest common ancestor cite.
-pub mod Jumps
-pub mod Ascent
+-- Laws that the proofs of the functions cite.
+pub mod Common
+pub mod Rows

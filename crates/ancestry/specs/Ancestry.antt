@@ -1,4 +1,4 @@
--- Jump pointers, and the lowest common ancestor of two layouts: what finding it promises, and that a pair prints on it (document 01, "A pair prints on its
+-- The lowest common ancestor of two layouts, and that a pair prints on it (document 01, "A pair prints on its
 -- deepest shared layout").
 use Prim.Native.Nat.{ℕ, _≤_, _<_}
 use mathlib.Core.Path.{_≡_, sym, _∙_}
@@ -12,58 +12,7 @@ use Rattle.tree_laws.specs.WellFormed.{Tree}
 use Rattle.tree_laws.specs.Ancestors.{AncestorOrSelf, ancestor-le}
 use Rattle.tree_laws.specs.Sharing.{shares-symmetric}
 use Rattle.tree_laws.specs.Deepest as deepest
-use Rattle.settle.specs.Spanned.{Spanned}
 use Rattle.jobs.specs.Accepted.{Accepted}
-
--- u is an ancestor of x, and not x itself
-pub record ProperAncestor (ps : List ℕ) (u x : ℕ) : Type 0 where
-  pub ancestor : AncestorOrSelf ps u x
-  pub smaller : u < x
-
--- ---- jump pointers
-
--- those of the first n layouts: that of layout 0 leads nowhere, every other to a proper ancestor
-pub record JumpPointersBelow (ps : List ℕ) (n : ℕ) (jumps : List ℕ) : Type 0 where
-  pub room : length jumps ≡ layoutLimit
-  pub root : getD jumps 0 0 ≡ 0
-  pub jump : (x : ℕ) → 0 < x → x < n → ProperAncestor ps (getD jumps x 0) x
-
--- those of all layouts
-abbrev pub JumpPointers : List ℕ → List ℕ → Type 0
-JumpPointers ps jumps = JumpPointersBelow ps (length ps) jumps
-
--- what the jump pointer of x is made of: a settled tree, and the jump pointers of the layouts with smaller numbers
-pub record Jumpable (ps cells jumps : List ℕ) (x : ℕ) : Type 0 where
-  pub spanned : Spanned ps cells
-  pub smaller : JumpPointersBelow ps x jumps
-  pub later : 0 < x
-  pub known : x < length ps
-
--- ---- the ascent
-
--- what an ascent from x is lent: a settled tree, its jump pointers, and a leaf of the tree
-pub record Ascendable (ps cells jumps : List ℕ) (x leaf : ℕ) : Type 0 where
-  pub spanned : Spanned ps cells
-  pub jumping : JumpPointers ps jumps
-  pub known : x < length ps
-  pub reached : leaf ≤ lastLeaf ps 0
-
--- every ancestor of x whose leaves reach as far right as the leaf is r or an ancestor of it
-abbrev pub Keeps : List ℕ → ℕ → ℕ → ℕ → Type 0
-Keeps ps x leaf r = (u : ℕ) → AncestorOrSelf ps u x → leaf ≤ lastLeaf ps u → AncestorOrSelf ps u r
-
--- a step up from x leads to r, and past no such ancestor
-pub record Ascended (ps : List ℕ) (x leaf r : ℕ) : Type 0 where
-  pub proper : ProperAncestor ps r x
-  pub keeps : Keeps ps x leaf r
-
--- r is the lowest such ancestor
-pub record LowestReaching (ps : List ℕ) (x leaf r : ℕ) : Type 0 where
-  pub ancestor : AncestorOrSelf ps r x
-  pub reaches : leaf ≤ lastLeaf ps r
-  pub lowest : Keeps ps x leaf r
-
--- ---- the lowest common ancestor
 
 -- r is a common ancestor of x and y, and every common ancestor is r or an ancestor of it
 pub record LowestCommonAncestor (ps : List ℕ) (x y r : ℕ) : Type 0 where

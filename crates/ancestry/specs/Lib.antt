@@ -1,2 +1,4 @@
--- Jump pointers and the lowest common ancestor: what finding it promises, and that a pair prints on it.
+-- The lowest common ancestor of two layouts, and the sparse table that it is found by.
 pub mod Ancestry
+pub mod SparseTable
+pub mod Room

@@ -1,121 +1,120 @@
-// The lowest common ancestor of two layouts. Each layout has, beside its parent, a jump pointer to an ancestor further up, so that an ascent takes steps
-// in the order of the logarithm of its length (Myers, "An applicative random-access stack").
+// The lowest common ancestor of two layouts, by range minimum. It is the smallest of the two and of the parents of the layouts whose first leaf lies after
+// that of the left one, up to that of the right one: an ancestor has a smaller number than what stands below it. Minima of these parents stand in a
+// sparse table.
 use model::LayoutNumber;
 use settle::TREE;
 ghost use mathlib.Core.Path.{_≡_};
-ghost use mathlib.Core.Bool.{cond};
-ghost use Prim.Native.Nat.{_+_, _<_};
-ghost use lib.ListN.{length, getD};
-ghost use lib.Dec.{ltb};
-ghost use Rattle.model.specs.Tree.{layoutLimit, lastLeaf};
+ghost use mathlib.Core.List.{List};
+ghost use Prim.Native.Nat.{ℕ, _+_, _-_, _<_, _≤_, min, max};
+ghost use lib.ListN.{length, replicate};
+ghost use Rattle.model.specs.Tree.{FFFF};
+ghost use Rattle.laws.specs.Least.{leastOf};
 ghost use Rattle.settle.specs.Spanned.{Spanned};
-ghost use Rattle.ancestry.specs.Ancestry.{ProperAncestor, Jumpable, JumpPointers, Ascendable, Ascended, LowestReaching, LowestCommonAncestor};
+ghost use Rattle.ancestry.specs.Ancestry.{LowestCommonAncestor};
+ghost use Rattle.ancestry.specs.SparseTable.{strideOf, smallestParent, Roomy, RowsTo, RowSet, Minima, Searchable};
 
-// The parent of layout x.
-fn parent_of(parents: &[u16], x: LayoutNumber) -> LayoutNumber
-    requires { ⌜ x .0 < length (now parents) ⌝ }
-    ensures { λ r. ⌜ r .0 ≡ getD (now (parents .entry)) (x .0) 0 ⌝ }
-{
-    let at = x.0 as usize;
-    LayoutNumber(parents[at])
-}
+// Cells for the minima of every tree.
+pub const CELLS: usize = 12 * (LayoutNumber::LIMIT + 1);
 
-// Where the jump pointer of layout x leads.
-fn jump_from(jumps: &[u16; LayoutNumber::LIMIT], x: LayoutNumber) -> LayoutNumber
-    requires { ⌜ x .0 < layoutLimit ⌝ }
-    ensures { λ r. ⌜ r .0 ≡ getD (now (jumps .entry)) (x .0) 0 ⌝ }
-{
-    let at = x.0 as usize;
-    LayoutNumber(jumps[at])
-}
+// Where a row has at most FEW cells, so few are enough.
+pub const FEW: usize = 128;
 
-// The jump pointer of x, once its ancestors have theirs: as far as two jumps from its parent where these are of one length, else to its parent.
-fn jump_of(
-    parents: &[u16],
-    tree: &[u16; TREE],
-    jumps: &[u16; LayoutNumber::LIMIT],
-    x: LayoutNumber,
-) -> LayoutNumber
-    requires { ⌜ Jumpable (now parents) (now tree) (now jumps) (x .0) ⌝ }
-    ensures { λ r. ⌜ ProperAncestor (now (parents .entry)) (r .0) (x .0) ⌝ }
-{
-    let parent = parent_of(parents, x);
-    let near = jump_from(jumps, parent);
-    let far = jump_from(jumps, near);
-    let middle = settle::depth_of(tree, near);
-    if settle::depth_of(tree, parent) - middle == middle - settle::depth_of(tree, far) {
-        return far;
-    }
-    parent
-}
+pub const FEW_CELLS: usize = 8 * FEW;
 
-// The jump pointer of each layout, in order of number: an ancestor has a smaller one.
-pub fn jump_pointers(parents: &[u16], tree: &[u16; TREE]) -> [u16; LayoutNumber::LIMIT]
-    requires { ⌜ Spanned (now parents) (now tree) ⌝ }
-    ensures { λ r. ⌜ JumpPointers (now (parents .entry)) r ⌝ }
+// The smaller of two numbers.
+fn smaller(x: LayoutNumber, y: LayoutNumber) -> LayoutNumber
+    ensures { λ r. ⌜ r .0 ≡ min (x .0) (y .0) ⌝ }
 {
-    let mut jumps = [0; LayoutNumber::LIMIT];
-    let mut x = 1;
-    while x < parents.len() {
-        let jump = jump_of(parents, tree, &jumps, LayoutNumber(x as u16));
-        jumps[x] = jump.0;
-        x += 1;
-    }
-    jumps
-}
-
-// A step up from x, whose leaves do not reach as far right as `leaf`: by its jump pointer, if what that leads to does not reach it either, else to its
-// parent.
-fn step_up(
-    parents: &[u16],
-    tree: &[u16; TREE],
-    jumps: &[u16; LayoutNumber::LIMIT],
-    x: LayoutNumber,
-    leaf: usize,
-) -> LayoutNumber
-    requires { ⌜ Ascendable (now parents) (now tree) (now jumps) (x .0) leaf ⌝ }
-    requires { ⌜ lastLeaf (now parents) (x .0) < leaf ⌝ }
-    ensures { λ r. ⌜ Ascended (now (parents .entry)) (x .0) leaf (r .0) ⌝ }
-{
-    let parent = parent_of(parents, x);
-    let jump = jump_from(jumps, x);
-    if settle::last_leaf(tree, jump) < leaf {
-        return jump;
-    }
-    parent
-}
-
-// The lowest layout, of x and its ancestors, whose leaves reach as far right as `leaf`. Those of layout 0 reach every leaf.
-fn ascend(
-    parents: &[u16],
-    tree: &[u16; TREE],
-    jumps: &[u16; LayoutNumber::LIMIT],
-    x: LayoutNumber,
-    leaf: usize,
-) -> LayoutNumber
-    requires { ⌜ Ascendable (now parents) (now tree) (now jumps) (x .0) leaf ⌝ }
-    ensures { λ r. ⌜ LowestReaching (now (parents .entry)) (x .0) leaf (r .0) ⌝ }
-{
-    let mut at = x;
-    while settle::last_leaf(tree, at) < leaf {
-        at = step_up(parents, tree, jumps, at, leaf);
-    }
-    at
-}
-
-// x, if the test holds, else y.
-fn select(test: bool, x: LayoutNumber, y: LayoutNumber) -> LayoutNumber
-    ensures { λ r. ⌜ r .0 ≡ cond test (x .0) (y .0) ⌝ }
-{
-    if test {
+    if x.0 < y.0 {
         return x;
     }
     y
 }
 
-// The larger of two leaves.
+// How many cells a row of minima has: one for each leaf, and one more.
+pub fn stride_of(tree: &[u16; TREE]) -> usize
+    requires { ⌜ ((ps : List ℕ) × Spanned ps (now tree)) ⌝ }
+    ensures { λ r. ⌜ ((ps : List ℕ) → Spanned ps (now (tree .entry)) → r ≡ strideOf ps) ⌝ }
+{
+    settle::last_leaf(tree, LayoutNumber(0)) + 2
+}
+
+// Row 1: at each leaf the smallest parent of the layouts that have it as first leaf.
+fn set_parents(parents: &[u16], tree: &[u16; TREE], stride: usize, minima: &mut [u16])
+    requires { ⌜ Spanned (now parents) (now tree) ⌝ }
+    requires { ⌜ stride ≡ strideOf (now parents) ⌝ }
+    requires { ⌜ Roomy (now parents) (now minima) ⌝ }
+    requires { ⌜ now minima ≡ replicate (length (now minima)) FFFF ⌝ }
+    ensures { λ r. ⌜ RowsTo (now (parents .entry)) 1 (now (minima .exit)) ⌝ }
+{
+    let mut x = 1;
+    while x < parents.len() {
+        let parent = LayoutNumber(parents[x]);
+        let at = stride + settle::first_leaf(tree, LayoutNumber(x as u16));
+        minima[at] = smaller(LayoutNumber(minima[at]), parent).0;
+        x += 1;
+    }
+}
+
+// The row after the one that begins at `at`: a minimum of twice as many leaves is the smaller of two.
+fn set_row(minima: &mut [u16], at: usize, stride: usize, half: usize)
+    requires { ⌜ at + stride + stride ≤ length (now minima) ⌝ }
+    requires { ⌜ half ≤ stride ⌝ }
+    ensures { λ r. ⌜ RowSet at stride half (stride - (half + half)) (now (minima .entry)) (now (minima .exit)) ⌝ }
+{
+    let mut k = 0;
+    while k + 2 * half < stride {
+        let left = LayoutNumber(minima[at + k]);
+        let right = LayoutNumber(minima[at + k + half]);
+        minima[at + stride + k] = smaller(left, right).0;
+        k += 1;
+    }
+}
+
+// The minima of a tree, in cells that hold FFFF: row after row, as long as a minimum is of fewer leaves than a row has cells.
+pub fn set_minima(parents: &[u16], tree: &[u16; TREE], minima: &mut [u16])
+    requires { ⌜ Spanned (now parents) (now tree) ⌝ }
+    requires { ⌜ Roomy (now parents) (now minima) ⌝ }
+    requires { ⌜ now minima ≡ replicate (length (now minima)) FFFF ⌝ }
+    ensures { λ r. ⌜ Minima (now (parents .entry)) (now (minima .exit)) ⌝ }
+{
+    let stride = stride_of(tree);
+    set_parents(parents, tree, stride, minima);
+    let mut at = stride;
+    let mut half = 1;
+    while 2 * half < stride {
+        set_row(minima, at, stride, half);
+        at += stride;
+        half *= 2;
+    }
+}
+
+// The smallest parent of the layouts whose first leaf lies from `from` up to `to`: these leaves are covered by two windows as long as the largest power of two
+// among their number. Of no leaves it is FFFF, which row 0 holds.
+fn smallest_parent(tree: &[u16; TREE], minima: &[u16], from: usize, to: usize) -> LayoutNumber
+    requires { ⌜ ((ps : List ℕ) × Searchable ps (now tree) (now minima) × (from ≤ to) × (to < strideOf ps)) ⌝ }
+    ensures { λ r. ⌜ ((ps : List ℕ) → Searchable ps (now (tree .entry)) (now (minima .entry)) → from ≤ to → to < strideOf ps → r .0 ≡ leastOf (smallestParent ps) from (to - from)) ⌝ }
+{
+    let bits = 64 - usize::leading_zeros(to - from) as usize;
+    let row = bits * stride_of(tree);
+    let window = (1usize << bits) / 2;
+    let left = LayoutNumber(minima[row + from]);
+    let right = LayoutNumber(minima[row + to - window]);
+    smaller(left, right)
+}
+
+// The smaller and the larger of two leaves.
+fn lesser(a: usize, b: usize) -> usize
+    ensures { λ r. ⌜ r ≡ min a b ⌝ }
+{
+    if a < b {
+        return a;
+    }
+    b
+}
+
 fn larger(a: usize, b: usize) -> usize
-    ensures { λ r. ⌜ r ≡ cond (ltb a b) b a ⌝ }
+    ensures { λ r. ⌜ r ≡ max a b ⌝ }
 {
     if a < b {
         return b;
@@ -123,26 +122,19 @@ fn larger(a: usize, b: usize) -> usize
     a
 }
 
-// The lowest common ancestor of x and y; a layout counts as its own. Of two with one first leaf, one is an ancestor of the other. Else an ancestor of the
-// left one is an ancestor of both if its leaves reach as far as the first leaf of the right one: one comparison a step.
+// The lowest common ancestor of x and y; a layout counts as its own.
 pub fn lowest_common_ancestor(
-    parents: &[u16],
     tree: &[u16; TREE],
-    jumps: &[u16; LayoutNumber::LIMIT],
+    minima: &[u16],
     x: LayoutNumber,
     y: LayoutNumber,
 ) -> LayoutNumber
-    requires { ⌜ Spanned (now parents) (now tree) ⌝ }
-    requires { ⌜ JumpPointers (now parents) (now jumps) ⌝ }
-    requires { ⌜ x .0 < length (now parents) ⌝ }
-    requires { ⌜ y .0 < length (now parents) ⌝ }
-    ensures { λ r. ⌜ LowestCommonAncestor (now (parents .entry)) (x .0) (y .0) (r .0) ⌝ }
+    requires { ⌜ ((ps : List ℕ) × Searchable ps (now tree) (now minima) × (x .0 < length ps) × (y .0 < length ps)) ⌝ }
+    ensures { λ r. ⌜ ((ps : List ℕ) → Searchable ps (now (tree .entry)) (now (minima .entry)) → x .0 < length ps → y .0 < length ps → LowestCommonAncestor ps (x .0) (y .0) (r .0)) ⌝ }
 {
     let first = settle::first_leaf(tree, x);
     let second = settle::first_leaf(tree, y);
-    if first == second {
-        return select(settle::depth_of(tree, x) <= settle::depth_of(tree, y), x, y);
-    }
-    let left = select(first < second, x, y);
-    ascend(parents, tree, jumps, left, larger(first, second))
+    let from = lesser(first, second) + 1;
+    let to = larger(first, second) + 1;
+    smaller(smaller(x, y), smallest_parent(tree, minima, from, to))
 }

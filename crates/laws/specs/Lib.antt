@@ -8,3 +8,4 @@ pub mod Counting
 pub mod Places
 pub mod Sorting
 pub mod Levels
+pub mod Least

@@ -7,13 +7,13 @@ use schedule::job_at;
 use schedule::mate_at;
 use schedule::opener_at;
 use settle::TREE;
-ghost use mathlib.Core.Path.{_≡_};
-ghost use Prim.Native.Nat.{_<_};
-ghost use lib.ListN.{length, getD};
+ghost use mathlib.Core.List.{List};
+ghost use Prim.Native.Nat.{ℕ};
+ghost use lib.ListN.{length};
 ghost use Rattle.model.specs.Jobs.{tableOf};
 ghost use Rattle.settle.specs.Spanned.{Spanned};
 ghost use Rattle.jobs.specs.Accepted.{Accepted};
-ghost use Rattle.ancestry.specs.Ancestry.{JumpPointers};
+ghost use Rattle.ancestry.specs.SparseTable.{Searchable};
 ghost use Rattle.passes.specs.Making.{Roomy, Made};
 ghost use Rattle.passes.specs.Read.{PassCells, PairCells, PairRead, PassRead};
 
@@ -50,41 +50,25 @@ pub fn make_passes(
 
 // The pass of two jobs: they print on the deepest layout that is above both bottoms.
 fn pair_of(
-    parents: &[u16],
     tree: &[u16; TREE],
-    jumps: &[u16; LayoutNumber::LIMIT],
+    minima: &[u16],
     bottoms: &[u16],
     one: JobNumber,
     other: JobNumber,
 ) -> Pass
-    requires { ⌜ Spanned (now parents) (now tree) ⌝ }
-    requires { ⌜ JumpPointers (now parents) (now jumps) ⌝ }
-    requires { ⌜ PairCells (now parents) (now bottoms) (one .0) (other .0) ⌝ }
-    ensures { λ r. ⌜ PairRead (now (parents .entry)) (now (bottoms .entry)) (one .0) (other .0) r ⌝ }
+    requires { ⌜ ((ps : List ℕ) × Searchable ps (now tree) (now minima) × PairCells ps (now bottoms) (one .0) (other .0)) ⌝ }
+    ensures { λ r. ⌜ ((ps : List ℕ) → Searchable ps (now (tree .entry)) (now (minima .entry)) → PairCells ps (now (bottoms .entry)) (one .0) (other .0) → PairRead ps (now (bottoms .entry)) (one .0) (other .0) r) ⌝ }
 {
-    let layout = ancestry::lowest_common_ancestor(
-        parents,
-        tree,
-        jumps,
-        bottom_of(bottoms, one),
-        bottom_of(bottoms, other),
-    );
+    let first = bottom_of(bottoms, one);
+    let second = bottom_of(bottoms, other);
+    let layout = ancestry::lowest_common_ancestor(tree, minima, first, second);
     Pass::Pair(one, other, layout)
 }
 
 // Pass k, by the earlier place in it.
-pub fn pass_at(
-    parents: &[u16],
-    tree: &[u16; TREE],
-    jumps: &[u16; LayoutNumber::LIMIT],
-    bottoms: &[u16],
-    work: &[u16],
-    k: usize,
-) -> Pass
-    requires { ⌜ Spanned (now parents) (now tree) ⌝ }
-    requires { ⌜ JumpPointers (now parents) (now jumps) ⌝ }
-    requires { ⌜ PassCells (now parents) (now bottoms) (now work) k ⌝ }
-    ensures { λ r. ⌜ PassRead (now (parents .entry)) (now (bottoms .entry)) (now (work .entry)) k r ⌝ }
+pub fn pass_at(tree: &[u16; TREE], minima: &[u16], bottoms: &[u16], work: &[u16], k: usize) -> Pass
+    requires { ⌜ ((ps : List ℕ) × Searchable ps (now tree) (now minima) × PassCells ps (now bottoms) (now work) k) ⌝ }
+    ensures { λ r. ⌜ ((ps : List ℕ) → Searchable ps (now (tree .entry)) (now (minima .entry)) → PassCells ps (now (bottoms .entry)) (now (work .entry)) k → PassRead ps (now (bottoms .entry)) (now (work .entry)) k r) ⌝ }
 {
     let count = bottoms.len();
     let opener = opener_at(work, count, k);
@@ -92,12 +76,7 @@ pub fn pass_at(
     if mate.is_none() {
         return Pass::Single(job_at(work, opener));
     }
-    pair_of(
-        parents,
-        tree,
-        jumps,
-        bottoms,
-        job_at(work, opener),
-        job_at(work, mate),
-    )
+    let one = job_at(work, opener);
+    let other = job_at(work, mate);
+    pair_of(tree, minima, bottoms, one, other)
 }

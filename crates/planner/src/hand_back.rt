@@ -78,10 +78,11 @@ pub fn hand_back(
     requires { ⌜ length (now printed) ≡ length (now bottoms) ⌝ }
     ensures { λ r. ⌜ ((tb : Table) → Plan tb (now (parents .entry)) (now (tree .entry)) (now (bottoms .entry)) (now (work .entry)) count → Returned tb (now (partners .exit)) (now (printed .exit))) ⌝ }
 {
-    let jumps = ancestry::jump_pointers(parents, tree);
+    let mut minima = [model::ABSENT; ancestry::CELLS];
+    ancestry::set_minima(parents, tree, &mut minima);
     let mut k = 0;
     while k < count {
-        let pass = passes::pass_at(parents, tree, &jumps, bottoms, work, k);
+        let pass = passes::pass_at(tree, &minima, bottoms, work, k);
         write_pass(pass, partners, printed);
         k += 1;
     }

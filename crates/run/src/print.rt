@@ -3,10 +3,12 @@ use model::Totals;
 use passes::Pass;
 use settle::TREE;
 ghost use mathlib.Core.Path.{_≡_};
-ghost use Prim.Native.Nat.{_+_, _≤_};
+ghost use mathlib.Core.List.{List};
+ghost use Prim.Native.Nat.{ℕ, _+_, _≤_};
 ghost use lib.ListN.{length};
 ghost use Rattle.model.specs.Jobs.{Table};
 ghost use Rattle.model.specs.Output.{planBytes, outputBytes};
+ghost use Rattle.ancestry.specs.SparseTable.{Searchable};
 ghost use Rattle.lines.specs.Writing.{digitBytes, Printed};
 ghost use Rattle.passes.specs.PlanPass.{Plan, TotalsOf};
 ghost use Rattle.run.specs.Printing.{lineLength, LineAppended, PassesAppended};
@@ -26,6 +28,31 @@ fn put_pass(digits: &[u8; 16], out: &mut [u8], at: usize, pass: Pass) -> usize
 // The lines of all passes.
 fn put_passes(
     digits: &[u8; 16],
+    tree: &[u16; TREE],
+    minima: &[u16],
+    bottoms: &[u16],
+    work: &[u16],
+    count: usize,
+    out: &mut [u8],
+) -> usize
+    requires { ⌜ now digits ≡ digitBytes ⌝ }
+    requires { ⌜ ((tb : Table) × (ps : List ℕ) × Plan tb ps (now tree) (now bottoms) (now work) count × Searchable ps (now tree) (now minima)) ⌝ }
+    requires { ⌜ outputBytes ≤ length (now out) ⌝ }
+    ensures { λ r. ⌜ ((tb : Table) (ps : List ℕ) → Plan tb ps (now (tree .entry)) (now (bottoms .entry)) (now (work .entry)) count → Searchable ps (now (tree .entry)) (now (minima .entry)) → PassesAppended tb count (now (out .entry)) r (now (out .exit))) ⌝ }
+{
+    let mut at = 0;
+    let mut k = 0;
+    while k < count {
+        let pass = passes::pass_at(tree, minima, bottoms, work, k);
+        at = put_pass(digits, out, at, pass);
+        k += 1;
+    }
+    at
+}
+
+// The same, with the minima of a small tree in few cells, so that little memory is touched.
+fn put_plan(
+    digits: &[u8; 16],
     parents: &[u16],
     tree: &[u16; TREE],
     bottoms: &[u16],
@@ -38,15 +65,14 @@ fn put_passes(
     requires { ⌜ outputBytes ≤ length (now out) ⌝ }
     ensures { λ r. ⌜ ((tb : Table) → Plan tb (now (parents .entry)) (now (tree .entry)) (now (bottoms .entry)) (now (work .entry)) count → PassesAppended tb count (now (out .entry)) r (now (out .exit))) ⌝ }
 {
-    let jumps = ancestry::jump_pointers(parents, tree);
-    let mut at = 0;
-    let mut k = 0;
-    while k < count {
-        let pass = passes::pass_at(parents, tree, &jumps, bottoms, work, k);
-        at = put_pass(digits, out, at, pass);
-        k += 1;
+    if ancestry::stride_of(tree) <= ancestry::FEW {
+        let mut minima = [model::ABSENT; ancestry::FEW_CELLS];
+        ancestry::set_minima(parents, tree, &mut minima);
+        return put_passes(digits, tree, &minima, bottoms, work, count, out);
     }
-    at
+    let mut minima = [model::ABSENT; ancestry::CELLS];
+    ancestry::set_minima(parents, tree, &mut minima);
+    put_passes(digits, tree, &minima, bottoms, work, count, out)
 }
 
 // The whole plan, with zeros after it.
@@ -64,7 +90,7 @@ pub fn print_plan(
 {
     let digits = lines::DIGITS;
     let count = totals.pairs as usize + totals.singles as usize;
-    let end = put_passes(&digits, parents, tree, bottoms, work, count, out);
+    let end = put_plan(&digits, parents, tree, bottoms, work, count, out);
     let length = lines::put_totals(&digits, out, end, totals);
     lines::clear_from(out, length);
     length

@@ -8,45 +8,11 @@ use native.Mathlib.Omega.{arith}
 use native.Mathlib.Decide.{ℕ-discrete, decLe}
 use lib.ListN.{getD}
 use Rattle.model.specs.Tree.{FFFF}
+use Rattle.laws.specs.Least.{leastOf, least-cap, least-le, least-reached, least-append}
 use Rattle.sweep_laws.specs.SegmentTree.{slots, entriesIn, smallest, SegmentTree}
 use Rattle.sweep_laws.specs.EntryLaws.{smallest-unique, slot-cell}
 
--- the smallest of f at the n numbers from a on; FFFF for none
-pub leastOf : (ℕ → ℕ) → ℕ → ℕ → ℕ
-leastOf f a zero = FFFF
-leastOf f a (suc n) = min (f a) (leastOf f (suc a) n)
-
 module _ (f : ℕ → ℕ) where
-  least-cap : (a n : ℕ) → leastOf f a n ≤ FFFF
-  unfolding leastOf
-  least-cap a zero = omega arith
-  least-cap a (suc n) = omega (arith, least-cap (suc a) n)
-
-  least-le : (a n i : ℕ) → a ≤ i → i < a + n → leastOf f a n ≤ f i
-  unfolding leastOf
-  least-le a zero i h below = absurd (omega arith)
-  least-le a (suc n) i h below = elim (ℕ-discrete i a) [
-    | yes first ↦ rw first (omega arith)
-    | no later ↦ omega (arith, least-le (suc a) n i (omega arith) (omega arith))
-  ]
-
-  least-reached : (a n : ℕ) → (leastOf f a n ≡ FFFF → ⊥) → (i : ℕ) × (a ≤ i) × (i < a + n) × (f i ≡ leastOf f a n)
-  unfolding leastOf
-  least-reached a zero some = absurd (some refl)
-  least-reached a (suc n) some = elim (decLe (f a) (leastOf f (suc a) n)) [
-    | yes first ↦ (a, omega arith, omega arith, omega arith)
-    | no rest ↦
-        let same : min (f a) (leastOf f (suc a) n) ≡ leastOf f (suc a) n = omega arith in
-        let r = least-reached (suc a) n (λ none. some (same ∙ none)) in
-        (r .0, omega (arith, r .1), omega (arith, r .2), r .3 ∙ sym same)
-  ]
-
-  -- two spans side by side
-  least-append : (a m n : ℕ) → leastOf f a (m + n) ≡ min (leastOf f a m) (leastOf f (a + m) n)
-  unfolding leastOf
-  least-append a zero n = rw (zero-add n, add-zero a) (omega (arith, least-cap a n))
-  least-append a (suc m) n = rw (suc-add m n, least-append (suc a) m n, add-suc a m, suc-add a m) (omega arith)
-
   -- where each node is the smaller of the two below it, a span of nodes has the smallest place of the span below
   least-double : (a n : ℕ) → ((i : ℕ) → a ≤ i → i < a + n → f i ≡ min (f (2 * i)) (f (2 * i + 1))) → leastOf f (2 * a) (2 * n) ≡ leastOf f a n
   unfolding leastOf

@@ -5,8 +5,9 @@ use mathlib.Core.List.{List}
 use native.Mathlib.Omega.{arith}
 use native.Mathlib.Numerals.{add-one}
 use Rattle.model.specs.Tree.{FFFF}
+use Rattle.laws.specs.Least.{leastOf}
 use Rattle.sweep_laws.specs.SegmentTree.{entriesIn, smallest, SegmentTree}
-use Rattle.sweep_laws.specs.NodeSpans.{leastOf, nodeAt, Narrowed, narrowed-first, narrowed-parents, slots-smallest}
+use Rattle.sweep_laws.specs.NodeSpans.{nodeAt, Narrowed, narrowed-first, narrowed-parents, slots-smallest}
 use Rattle.sweep_laws.specs.VisitLevels.{up, down, VisitsMet, visits-met}
 
 -- the ends left₀ and right₀ of a span, rounded to the nodes of a level

@@ -1,45 +1,42 @@
--- `ancestry::lowest_common_ancestor` meets its contract: the shallower of two with one first leaf, else the lowest ancestor of the left one that reaches the
--- first leaf of the right one.
-use Rattle.ancestry.proofs.Ascent.{shallower-common, left-ascendable, left-common}
+-- It is the smallest of the two and of the parents between.
+use mathlib.Core.Path.{refl, _∙_}
+use Rattle.ancestry.proofs.Common.{smallest-common}
+use Rattle.ancestry.specs.Room.{stride-small}
+use Rattle.ancestry.proofs.Rows.{leaf-read}
+use native.Mathlib.Omega.{arith}
 use borrow.Author.Needs.{needs}
 use Rattle.ancestry.proofs.lowest_common_ancestor.Statement.{statement}
 use Rattle.ancestry.proofs.lowest_common_ancestor.Tie as tie
 
 first-leaf-requires : tie.Need-first-leaf-requires
-first-leaf-requires c κs = search needs
+first-leaf-requires c κs = omega (arith, c .before .pre .2, c .before .pre .1 .spanned .tree .small)
 
 first-leaf-requires-2 : tie.Need-first-leaf-requires-2
-first-leaf-requires-2 c κs = search needs
+first-leaf-requires-2 c κs = omega (arith, c .before .before .pre .3, c .before .before .pre .1 .spanned .tree .small)
 
-depth-of-requires : tie.Need-depth-of-requires
-depth-of-requires c κs = search needs
+lesser-requires : tie.Need-lesser-requires
+lesser-requires c κs = search needs
 
-depth-of-requires-2 : tie.Need-depth-of-requires-2
-depth-of-requires-2 c κs = search needs
-
-select-requires : tie.Need-select-requires
-select-requires c κs = search needs
-
-returns : tie.Need-returns
-returns c =
-    let pre = c .before .before .before .before .before .before .before .pre in
-    shallower-common _ _ _ (pre .0) (pre .1 .0) _ _ (pre .1 .1 .0) (pre .1 .1 .1) _ _ (c .before .before .before .before .before .first-leaf .ensures) (c .before .before .before .before .first-leaf2 .ensures) (c .before .before .before .if1 .taken) _ _ (c .before .before .depth-of .ensures) (c .before .depth-of2 .ensures) _ (c .select .ensures)
-
-select-requires-2 : tie.Need-select-requires-2
-select-requires-2 c κs = search needs
+add-from : tie.Need-add-from
+add-from c = omega (arith, c .lesser .ensures, leaf-read _ _ (c .before .before .before .before .pre .1 .spanned) _ _ (c .before .before .before .before .pre .2) (c .before .before .first-leaf .ensures) .1, leaf-read _ _ (c .before .before .before .before .pre .1 .spanned) _ _ (c .before .before .before .before .pre .3) (c .before .first-leaf2 .ensures) .1, stride-small _ (c .before .before .before .before .pre .1 .spanned .tree))
 
 larger-requires : tie.Need-larger-requires
 larger-requires c κs = search needs
 
-ascend-requires : tie.Need-ascend-requires
-ascend-requires c κs =
-    let pre = c .before .before .before .before .before .before .pre in
-    left-ascendable _ _ _ (pre .0) (pre .1 .0) _ _ (pre .1 .1 .0) (pre .1 .1 .1) _ _ (c .before .before .before .before .first-leaf .ensures) (c .before .before .before .first-leaf2 .ensures) (c .before .before .if1 .left) _ _ (c .before .select2 .ensures) (c .larger .ensures)
+add-to : tie.Need-add-to
+add-to c = omega (arith, c .larger .ensures, leaf-read _ _ (c .before .before .before .before .before .pre .1 .spanned) _ _ (c .before .before .before .before .before .pre .2) (c .before .before .before .first-leaf .ensures) .1, leaf-read _ _ (c .before .before .before .before .before .pre .1 .spanned) _ _ (c .before .before .before .before .before .pre .3) (c .before .before .first-leaf2 .ensures) .1, stride-small _ (c .before .before .before .before .before .pre .1 .spanned .tree))
 
-returns-2 : tie.Need-returns-2
-returns-2 c =
-    let pre = c .before .before .before .before .before .before .before .pre in
-    left-common _ _ _ (pre .0) (pre .1 .0) _ _ (pre .1 .1 .0) (pre .1 .1 .1) _ _ (c .before .before .before .before .before .first-leaf .ensures) (c .before .before .before .before .first-leaf2 .ensures) (c .before .before .before .if1 .left) _ _ (c .before .before .select2 .ensures) (c .before .larger .ensures) _ (c .ascend .ensures)
+smaller-requires : tie.Need-smaller-requires
+smaller-requires c κs = search needs
+
+smallest-parent-requires : tie.Need-smallest-parent-requires
+smallest-parent-requires c κs = (_, c .before .before .before .before .before .before .pre .1, omega (arith, c .before .before .lesser .ensures, c .before .larger .ensures), omega (arith, c .before .larger .ensures, leaf-read _ _ (c .before .before .before .before .before .before .pre .1 .spanned) _ _ (c .before .before .before .before .before .before .pre .2) (c .before .before .before .before .first-leaf .ensures) .1, leaf-read _ _ (c .before .before .before .before .before .before .pre .1 .spanned) _ _ (c .before .before .before .before .before .before .pre .3) (c .before .before .before .first-leaf2 .ensures) .1))
+
+smaller-requires-2 : tie.Need-smaller-requires-2
+smaller-requires-2 c κs = search needs
+
+returns : tie.Need-returns
+returns c = λ ps s hx hy. smallest-common ps (s .spanned .tree) _ _ _ hx hy (rw (← leaf-read _ _ (s .spanned) _ _ hx (c .before .before .before .before .before .before .first-leaf .ensures) .0, ← leaf-read _ _ (s .spanned) _ _ hy (c .before .before .before .before .before .first-leaf2 .ensures) .0, ← c .before .before .before .before .lesser .ensures, ← c .before .before .before .larger .ensures) (c .smaller2 .ensures ∙ rw (c .before .before .smaller .ensures, c .before .smallest-parent .ensures ps s (omega (arith, c .before .before .before .before .lesser .ensures, c .before .before .before .larger .ensures)) (omega (arith, c .before .before .before .larger .ensures, leaf-read _ _ (s .spanned) _ _ hx (c .before .before .before .before .before .before .first-leaf .ensures) .1, leaf-read _ _ (s .spanned) _ _ hy (c .before .before .before .before .before .first-leaf2 .ensures) .1))) refl))
 
 pub lowest-common-ancestor-spec : {M : Type 1} → statement M
 lowest-common-ancestor-spec =
@@ -47,11 +44,11 @@ lowest-common-ancestor-spec =
     (tie.spec
     first-leaf-requires
     first-leaf-requires-2
-    depth-of-requires
-    depth-of-requires-2
-    select-requires
-    returns
-    select-requires-2
+    lesser-requires
+    add-from
     larger-requires
-    ascend-requires
-    returns-2)
+    add-to
+    smaller-requires
+    smallest-parent-requires
+    smaller-requires-2
+    returns)

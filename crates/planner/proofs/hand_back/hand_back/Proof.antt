@@ -1,52 +1,60 @@
 -- `planner::hand_back::hand_back` meets its contract: each pass is read and written.
 use Prim.Native.Nat.{ℕ, _-_}
-use mathlib.Core.Path.{_≡_, sym, _∙_}
+use mathlib.Core.Path.{_≡_, refl, sym, _∙_}
 use mathlib.Core.List.{List}
 use lib.ListN.{length}
 use Rattle.model.specs.Jobs.{Table}
-use Rattle.ancestry.specs.Ancestry.{JumpPointers}
+use Rattle.ancestry.specs.SparseTable.{Minima, Searchable}
+use Rattle.ancestry.specs.Room.{roomy-all}
 use Rattle.passes.specs.PlanPass.{Plan, jobs-are, plan-cells}
 use Rattle.planner.specs.HandBack.{HandedBack, handed-none, plan-inside, plan-more, plan-returned}
 use borrow.Author.Needs.{needs}
 use Rattle.planner.proofs.hand_back.hand_back.Statement.{statement}
 use Rattle.planner.proofs.hand_back.hand_back.Tie as tie
-use Rattle.ancestry.proofs.jump_pointers.Reads as jump-pointers-reads
 use Rattle.passes.proofs.pass_at.Reads as pass-at-reads
 
 -- the first k passes are handed back, whatever table the plan is of
-record Underway (parents tree bottoms work : List ℕ) (count : ℕ) (jumps partners printed : List ℕ) (k : ℕ) : Type 0 where
+record Underway (parents tree bottoms work : List ℕ) (count : ℕ) (minima partners printed : List ℕ) (k : ℕ) : Type 0 where
   partners-length : length partners ≡ length bottoms
   printed-length : length printed ≡ length bottoms
-  jumping : JumpPointers parents jumps
+  rows : Minima parents minima
   handed : (tb : Table) → Plan tb parents tree bottoms work count → HandedBack tb k partners printed
 
 abbrev Inv-loop : tie.InvT-loop
-Inv-loop parents tree bottoms work count partners₀ printed₀ jumps k₀ partners printed k =
-    Underway parents tree bottoms work count jumps partners printed k
+Inv-loop parents tree bottoms work count partners₀ printed₀ minima k₀ partners printed k =
+    Underway parents tree bottoms work count minima partners printed k
 
 abbrev μ-loop : tie.MeasureT-loop
-μ-loop parents tree bottoms work count partners₀ printed₀ jumps k₀ partners printed k = count - k
+μ-loop parents tree bottoms work count partners₀ printed₀ minima k₀ partners printed k = count - k
 
-jump-pointers-requires : tie.Need-jump-pointers-requires Inv-loop μ-loop
-jump-pointers-requires c κs = c .before .before .before .before .before .pre .0 .1 .spanned
+slice-aggregate-set-minima : tie.Need-slice-aggregate-set-minima Inv-loop μ-loop
+slice-aggregate-set-minima c = search needs
+
+set-minima-requires : tie.Need-set-minima-requires Inv-loop μ-loop
+set-minima-requires c κs = let s = c .before .before .before .before .before .before .pre .0 .1 .spanned in (s, (roomy-all _ _ (s .tree) refl, refl))
 
 loop-holds : tie.Need-loop-holds Inv-loop μ-loop
 loop-holds c =
-    let same = c .before .before .before .before .before .before .pre .1 in
+    let same = c .before .before .before .before .before .before .before .before .pre .1 in
     record {
       partners-length = same .0;
       printed-length = same .1;
-      jumping = c .jump-pointers .ensures;
+      rows = c .before .set-minima .ensures;
       handed = λ tb p. handed-none tb (p .table) _ _ (same .0 ∙ jobs-are tb _ _ _ _ _ p) (same .1 ∙ jobs-are tb _ _ _ _ _ p);
     }
 
+slice-aggregate-pass-at : tie.Need-slice-aggregate-pass-at Inv-loop μ-loop
+slice-aggregate-pass-at c = search needs
+
 pass-at-requires : tie.Need-pass-at-requires Inv-loop μ-loop
-pass-at-requires c κs = (c .before .before .before .before .before .before .before .before .before .pre .0 .1 .spanned, (c .before .before .loop .inv .jumping, plan-cells (c .before .before .before .before .before .before .before .before .before .pre .0 .0) _ _ _ _ _ (c .before .before .before .before .before .before .before .before .before .pre .0 .1) _ (c .before .loop-test .taken)))
+pass-at-requires c κs = let q = c .before .before .before .before .before .before .before .before .before .before .before .pre .0 in (_, record { spanned = q .1 .spanned; rows = c .before .before .loop .inv .rows }, plan-cells (q .0) _ _ _ _ _ (q .1) _ (c .before .loop-test .taken))
 
 write-pass-requires : tie.Need-write-pass-requires Inv-loop μ-loop
 write-pass-requires c κs =
     let i = c .before .before .before .before .before .loop .inv in
-    (rw (i .partners-length) (plan-inside (c .before .before .before .before .before .before .before .before .before .before .before .before .pre .0 .0) _ _ _ _ _ (c .before .before .before .before .before .before .before .before .before .before .before .before .pre .0 .1) _ (c .before .before .before .before .loop-test .taken) _ (c .before .before .pass-at .ensures)), i .printed-length ∙ sym (i .partners-length))
+    let q = c .before .before .before .before .before .before .before .before .before .before .before .before .before .before .pre .0 in
+    let read = c .before .before .pass-at .ensures _ (record { spanned = q .1 .spanned; rows = i .rows }) (plan-cells (q .0) _ _ _ _ _ (q .1) _ (c .before .before .before .before .loop-test .taken)) in
+    (rw (i .partners-length) (plan-inside (q .0) _ _ _ _ _ (q .1) _ (c .before .before .before .before .loop-test .taken) _ read), i .printed-length ∙ sym (i .partners-length))
 
 add-k : tie.Need-add-k Inv-loop μ-loop
 add-k c = search needs
@@ -61,8 +69,10 @@ loop-again c =
     record {
       partners-length = w .kept .1 .0 ∙ i .partners-length;
       printed-length = w .kept .1 .1 .0 ∙ i .printed-length;
-      jumping = i .jumping;
-      handed = λ tb p. rw (w .ensures .0, w .ensures .1) (plan-more tb _ _ _ _ _ p _ (c .before .before .before .before .before .before .before .before .before .loop-test .taken) _ (c .before .before .before .before .before .before .before .pass-at .ensures) _ _ (i .handed tb p));
+      rows = i .rows;
+      handed = λ tb p.
+          let read = c .before .before .before .before .before .before .before .pass-at .ensures _ (record { spanned = p .spanned; rows = i .rows }) (plan-cells tb _ _ _ _ _ p _ (c .before .before .before .before .before .before .before .before .before .loop-test .taken)) in
+          rw (w .ensures .0, w .ensures .1) (plan-more tb _ _ _ _ _ p _ (c .before .before .before .before .before .before .before .before .before .loop-test .taken) _ read _ _ (i .handed tb p));
     }
 
 same-length : tie.Need-same-length Inv-loop μ-loop
@@ -80,8 +90,10 @@ hand-back-spec =
     (tie.spec
     Inv-loop
     μ-loop
-    jump-pointers-requires
+    slice-aggregate-set-minima
+    set-minima-requires
     loop-holds
+    slice-aggregate-pass-at
     pass-at-requires
     write-pass-requires
     add-k
