@@ -7,13 +7,14 @@ use schedule::TREE;
 use segment_tree::Found;
 use segment_tree::Shape;
 ghost use mathlib.Core.Path.{_≡_};
-ghost use Prim.Native.Nat.{ℕ, _+_, _*_, _<_};
-ghost use lib.ListN.{getD};
+ghost use Prim.Native.Nat.{ℕ, _+_, _*_, _<_, _≤_};
+ghost use lib.ListN.{length, getD};
+ghost use Rattle.model.specs.Jobs.{jobLimit};
 ghost use Rattle.schedule.specs.Schedule.{Schedule};
-ghost use Rattle.schedule.specs.InWork.{slotPart, Swept};
-ghost use Rattle.sweep_laws.specs.SegmentTree.{entriesIn, insertEntry, removeEntry};
+ghost use Rattle.schedule.specs.InWork.{slotPart, treePart, Swept};
+ghost use Rattle.sweep_laws.specs.SegmentTree.{entriesIn, insertEntry, removeEntry, Minimum};
 ghost use Rattle.sweep_laws.specs.WorkCells.{treeIn, TreeChanged};
-ghost use Rattle.sweep_laws.specs.Sweeping.{Sweepable, Sweeping, PlaceInsertable, PlaceRemovable, Pairable, paired, Asking, Chosen, Underway, ReachedAt, SteppedFrom};
+ghost use Rattle.sweep_laws.specs.Sweeping.{Sweepable, Sweeping, PlaceInsertable, PlaceRemovable, Pairable, paired, MateSearchable, Asking, Chosen, Underway, ReachedAt, SteppedFrom};
 
 // What a sweep comes to: how many passes have two places, and how many nodes document 01 counts for its lookups.
 pub struct Matched {
@@ -74,6 +75,37 @@ fn set_pair(work: &mut [u16], count: usize, place: Rank, mate: Rank)
     schedule::end_asking(work, count, mate);
 }
 
+// The slot of the place after this one, if there is one.
+fn slot_after(work: &[u16], count: usize, place: Rank) -> usize
+    requires { ⌜ place .0 < count ⌝ }
+    requires { ⌜ count ≤ jobLimit ⌝ }
+    requires { ⌜ treePart * count ≤ length (now work) ⌝ }
+{
+    let next = place.0 as usize + 1;
+    if next < count {
+        return schedule::slot_at(work, count, Rank(next as u16));
+    }
+    count
+}
+
+// Looks for the mate of a place that waits no longer, in the slots from `from` up to `to`. The next place is the first that can be its mate.
+fn find_mate(
+    work: &[u16],
+    count: usize,
+    shape: Shape,
+    place: Rank,
+    from: usize,
+    to: usize,
+) -> Found
+    requires { ⌜ MateSearchable count (shape .levels) (shape .kept) (shape .width) (place .0) to (now work) ⌝ }
+    ensures { λ r. ⌜ Minimum (shape .levels) (shape .width) (treeIn count (now (work .entry))) from to (r .place .0) (r .visits) ⌝ }
+{
+    let slot = slot_after(work, count, place);
+    let next = Rank(place.0 + 1);
+    let start = TREE * count;
+    segment_tree::lookup(&work[start..], shape, from, to, slot, next)
+}
+
 // The turn of a place that asks for a span that ends at `to`: it waits no longer, and neither does the mate that it finds.
 fn match_place(work: &mut [u16], count: usize, shape: Shape, place: Rank, to: usize) -> Found
     requires { ⌜ ((s : Schedule) × (next : ℕ) × Asking s count (shape .levels) (shape .kept) (shape .width) (place .0) next to (now work)) ⌝ }
@@ -81,8 +113,7 @@ fn match_place(work: &mut [u16], count: usize, shape: Shape, place: Rank, to: us
 {
     remove_place(work, count, shape, place);
     let from = schedule::from_at(work, count, place);
-    let start = TREE * count;
-    let found = segment_tree::range_minimum(&work[start..], shape, from, to);
+    let found = find_mate(work, count, shape, place, from, to);
     let mate = found.place;
     if mate.is_none() {
         schedule::set_mate(work, count, place, mate);

@@ -3,14 +3,14 @@
 // stand side by side, and a search goes along them.
 use model::Rank;
 ghost use mathlib.Core.Path.{_≡_};
-ghost use Prim.Native.Nat.{ℕ, _-_, _*_, _<_, _≤_, min};
+ghost use Prim.Native.Nat.{_-_, _<_, _≤_, min, max};
 ghost use lib.ListN.{length};
 ghost use Rattle.model.specs.Jobs.{jobLimit};
-ghost use Rattle.sweep_laws.specs.SegmentTree.{SegmentTree, Clearable, Cleared, Insertable, Inserted, Removed, Searchable, Minimum};
+ghost use Rattle.model.specs.Visits.{visits};
+ghost use Rattle.sweep_laws.specs.SegmentTree.{SegmentTree, Clearable, Cleared, Insertable, Inserted, Removed, entriesIn, smallest, Searchable, Minimum};
 ghost use Rattle.laws.specs.Least.{leastOf};
-ghost use Rattle.sweep_laws.specs.NodeSpans.{nodeAt};
-ghost use Rattle.sweep_laws.specs.RangeMinimum.{Narrowable, Narrowing, Rounded, Meetable};
-ghost use Rattle.sweep_laws.specs.VisitCount.{levelsInside};
+ghost use Rattle.sweep_laws.specs.NodeSpans.{nodeAt, Narrowable, Narrowed};
+ghost use Rattle.sweep_laws.specs.VisitCount.{levelsInside, levelsShared, Countable};
 ghost use Rattle.sweep_laws.specs.Levels.{ShapeFor};
 
 // The measures of a tree: it has `width`, that is 2 ^ levels, slots, and the nodes from `kept` on. They are found by doubling, so that a compiler takes
@@ -106,33 +106,59 @@ pub fn remove(nodes: &mut [u16], shape: Shape, slot: usize)
     }
 }
 
-// How many of the levels above `below`, up to `levels`, have a node with x strictly inside, where x counts nodes of level `below`: x is a
-// border of a node as long as its trailing zeros last.
-fn levels_inside(below: usize, levels: usize, x: usize) -> usize
-    ensures { λ r. ⌜ r ≡ levelsInside below levels x ⌝ }
+// How many levels have a node with x strictly inside: x is a border of a node as long as its trailing zeros last.
+fn levels_inside(levels: usize, x: usize) -> usize
+    ensures { λ r. ⌜ r ≡ levelsInside 0 levels x ⌝ }
 {
     let zeros = usize::trailing_zeros(x) as usize;
+    if levels <= zeros {
+        return 0;
+    }
+    levels - zeros
+}
+
+// The larger of two numbers of levels.
+fn larger(a: usize, b: usize) -> usize
+    ensures { λ r. ⌜ r ≡ max a b ⌝ }
+{
+    if a < b {
+        return b;
+    }
+    a
+}
+
+// How many levels have a node with both ends strictly inside: those above the highest digit in which the ends differ, as there both lie in one node, and past
+// the trailing zeros of the left one.
+fn levels_shared(levels: usize, left: usize, right: usize) -> usize
+    requires { ⌜ left < right ⌝ }
+    ensures { λ r. ⌜ r ≡ levelsShared levels left right ⌝ }
+{
+    let digit = 63 - usize::leading_zeros(left ^ right) as usize;
+    let zeros = usize::trailing_zeros(left) as usize;
+    let below = larger(digit, zeros);
     if levels <= below {
         return 0;
     }
-    let above = levels - below;
-    if above <= zeros {
-        return 0;
-    }
-    above - zeros
+    levels - below
 }
 
-// What a search answers: the smallest place, FFFF for none, and how many nodes document 01 counts for it.
-pub struct Found {
-    pub place: Rank,
-    pub visits: u32,
+// How many nodes document 01 counts for a lookup of the slots from `from` up to `to`, which are not none: the topmost, and two for each node with an end strictly
+// inside.
+fn count_visits(shape: Shape, from: usize, to: usize) -> u32
+    requires { ⌜ Countable (shape .levels) (shape .width) from to ⌝ }
+    ensures { λ r. ⌜ r ≡ visits (shape .levels) from to ⌝ }
+{
+    let left = shape.width + from;
+    let right = shape.width + to;
+    let ends = levels_inside(shape.levels, left) + levels_inside(shape.levels, right);
+    let shared = levels_shared(shape.levels, left, right);
+    (1 + 2 * (ends - shared)) as u32
 }
 
 // Part of a search: what is left of a span, with the smallest place taken in so far.
 struct Span {
     left: usize,
     right: usize,
-    level: usize,
     least: Rank,
 }
 
@@ -140,24 +166,17 @@ struct Span {
 // their parents.
 fn narrow(nodes: &[u16], shape: Shape, from: usize, to: usize) -> Span
     requires { ⌜ Narrowable (shape .kept) (shape .width) (now nodes) from to ⌝ }
-    ensures { λ r. ⌜ Narrowing (shape .kept) (shape .width) (now (nodes .entry)) from to (r .left) (r .right) (r .least .0) (r .level) ⌝ }
+    ensures { λ r. ⌜ Narrowed (shape .kept) (shape .width) (now (nodes .entry)) from to (r .left) (r .right) (r .least .0) ⌝ }
 {
     let mut left = from;
     let mut right = to;
     let mut least = Rank(model::ABSENT);
-    let mut level = 0;
     while left < right && 2 * shape.kept <= left {
         least = smaller(least, smaller(Rank(nodes[left]), Rank(nodes[right - 1])));
         left = (left + 1) / 2;
         right /= 2;
-        level += 1;
     }
-    Span {
-        left,
-        right,
-        level,
-        least,
-    }
+    Span { left, right, least }
 }
 
 // The smallest of the nodes from `left` up to `right`, and of `least`.
@@ -174,31 +193,34 @@ fn along(nodes: &[u16], left: usize, right: usize, least: Rank) -> Rank
     answer
 }
 
-// Where the ends of a span meet.
-struct Meet {
-    node: usize,
-    level: usize,
-}
-
-// Follows the ends of a span up to the level on which they meet.
-fn meet_at(from: usize, to: usize, below: usize) -> Meet
-    requires { ⌜ Meetable from to below ⌝ }
-    ensures { λ r. ⌜ ((first last : ℕ) → Rounded first last from to below → Rounded first last (r .node) (r .node) (r .level)) ⌝ }
+// The smallest place in the slots from `from` up to `to`, from the slots up.
+fn range_minimum(nodes: &[u16], shape: Shape, from: usize, to: usize) -> Rank
+    requires { ⌜ SegmentTree (shape .kept) (shape .width) (now nodes) ⌝ }
+    requires { ⌜ from ≤ to ⌝ }
+    requires { ⌜ to ≤ shape .width ⌝ }
+    ensures { λ r. ⌜ r .0 ≡ smallest (entriesIn (shape .width) (now (nodes .entry))) from to ⌝ }
 {
-    let mut first = from;
-    let mut last = to;
-    let mut level = below;
-    while first < last {
-        first = (first + 1) / 2;
-        last /= 2;
-        level += 1;
-    }
-    Meet { node: first, level }
+    let span = narrow(nodes, shape, shape.width + from, shape.width + to);
+    along(nodes, span.left, span.right, span.least)
 }
 
-// Looks for the smallest place in the slots from `from` up to `to`, from the slots up.
-pub fn range_minimum(nodes: &[u16], shape: Shape, from: usize, to: usize) -> Found
-    requires { ⌜ Searchable (shape .levels) (shape .kept) (shape .width) (now nodes) to ⌝ }
+// What a lookup answers: the smallest place, FFFF for none, and how many nodes document 01 counts for it.
+pub struct Found {
+    pub place: Rank,
+    pub visits: u32,
+}
+
+// Looks for the smallest place in the slots from `from` up to `to`. No place in the tree is smaller than `first`: where that stands in the span, in `slot`, there
+// is nothing to search for.
+pub fn lookup(
+    nodes: &[u16],
+    shape: Shape,
+    from: usize,
+    to: usize,
+    slot: usize,
+    first: Rank,
+) -> Found
+    requires { ⌜ Searchable (shape .levels) (shape .kept) (shape .width) (now nodes) to (first .0) ⌝ }
     ensures { λ r. ⌜ Minimum (shape .levels) (shape .width) (now (nodes .entry)) from to (r .place .0) (r .visits) ⌝ }
 {
     if to <= from {
@@ -207,16 +229,17 @@ pub fn range_minimum(nodes: &[u16], shape: Shape, from: usize, to: usize) -> Fou
             visits: 1,
         };
     }
-    let levels = shape.levels;
-    let left = shape.width + from;
-    let right = shape.width + to;
-    let ends = levels_inside(0, levels, left) + levels_inside(0, levels, right);
-    let span = narrow(nodes, shape, left, right);
-    let least = along(nodes, span.left, span.right, span.least);
-    let meet = meet_at(span.left, span.right, span.level);
-    let shared = levels_inside(meet.level, levels, meet.node);
+    let visits = count_visits(shape, from, to);
+    if from <= slot && slot < to {
+        if nodes[shape.width + slot] == first.0 {
+            return Found {
+                place: first,
+                visits,
+            };
+        }
+    }
     Found {
-        place: least,
-        visits: (1 + 2 * (ends - shared)) as u32,
+        place: range_minimum(nodes, shape, from, to),
+        visits,
     }
 }

@@ -15,10 +15,10 @@ use Rattle.model.specs.Jobs.{jobLimit}
 use Rattle.laws.specs.Levels.{levels-least}
 use Rattle.schedule.specs.Schedule.{Schedule, slotAt, fromAt, toAt, visitsAt}
 use Rattle.schedule.specs.InWork.{slotPart, fromPart, toPart, reachedPart, duePart, matePart, treePart}
-use Rattle.sweep_laws.specs.SegmentTree.{entriesIn, removeEntry, smallest, Searchable, Minimum}
+use Rattle.sweep_laws.specs.SegmentTree.{entriesIn, removeEntry, smallest, Minimum}
 use Rattle.sweep_laws.specs.VisitBound.{visits-bound}
-use Rattle.sweep_laws.specs.WorkCells.{FrontKept, front-both, front-set-both, mid-tail, treeIn, TreeChanged, tree-set}
-use Rattle.sweep_laws.specs.Sweeping.{freeAt, Waiting, Open, Setting, Cells, Sweeping, Asking, paired, Chosen, PlaceRemovable, Pairable}
+use Rattle.sweep_laws.specs.WorkCells.{FrontKept, front-both, front-set-both, treeIn, TreeChanged, tree-set}
+use Rattle.sweep_laws.specs.Sweeping.{freeAt, Waiting, Open, Setting, Cells, Sweeping, Asking, paired, Chosen, PlaceRemovable, MateSearchable, Pairable}
 use Rattle.sweep_laws.specs.WaitingLaws.{waiting-as, waiting-remove}
 use Rattle.sweep_laws.specs.Reaching.{free-kept, cells-kept}
 use Rattle.sweep_laws.specs.Choice.{First, none-chosen, one-chosen}
@@ -163,20 +163,28 @@ module _ (s : Schedule) (n level kept width i next to : ℕ) (work : List ℕ) (
     pub asking-room : treePart * n ≤ length work₁
     asking-room = rw (c .front .same) room
 
-    pub asking-searchable : Searchable level kept width (take (length work₁ - treePart * n) (treeIn n work₁)) to
+    pub asking-searchable : MateSearchable n level kept width i to work₁
     asking-searchable =
         record {
-          tree = rw (mid-tail (treePart * n) work₁) (c .tree);
-          power = w .setting .width-is ∙ ap (λ (k : ℕ). 2 ^ k) (sym (a .levels-are));
-          inside = rw (to-at, w .setting .width-is, ← (w .setting .places-are)) (w .setting .sound .to-inside i (rw (w .setting .places-are) (a .inside)));
+          few = few;
+          inside = a .inside;
+          room = asking-room;
+          search =
+              record {
+                tree = c .tree;
+                power = w .setting .width-is ∙ ap (λ (k : ℕ). 2 ^ k) (sym (a .levels-are));
+                inside = rw (to-at, w .setting .width-is, ← (w .setting .places-are)) (w .setting .sound .to-inside i (rw (w .setting .places-are) (a .inside)));
+                some-place = omega (arith, few, a .inside);
+                no-smaller = λ e m. omega (arith, left .only e m .waiting .0);
+              };
         }
 
-    module _ (from q v : ℕ) (from-is : from ≡ getD work₁ (fromPart * n + i) 0) (m : Minimum level width (take (length work₁ - treePart * n) (treeIn n work₁)) from to q v) where
+    module _ (from q v : ℕ) (from-is : from ≡ getD work₁ (fromPart * n + i) 0) (m : Minimum level width (treeIn n work₁) from to q v) where
       from-at : from ≡ fromAt s i
       from-at = from-is ∙ c .front .kept (fromPart * n + i) (omega (arith, a .inside)) ∙ w .cells .from-cell i (omega arith) (a .inside) free-here
 
       q-is : q ≡ smallest (entriesIn width (treeIn n work₁)) (fromAt s i) (toAt s i)
-      q-is = m .place-is ∙ rw (mid-tail (treePart * n) work₁, from-at, to-at) refl
+      q-is = m .place-is ∙ rw (from-at, to-at) refl
 
       v-is : v ≡ visitsAt s i
       unfolding visitsAt

@@ -15,7 +15,7 @@ use Rattle.model.specs.Lists.{select, insertBy}
 use Rattle.model.specs.Tree.{FFFF}
 use Rattle.laws.specs.Lists.{getD-inside}
 use Rattle.laws.specs.Booleans.{answers}
-use Rattle.sweep_laws.specs.SegmentTree.{slots, Entry, entriesFrom, entries, leftOf, insertEntry, removeEntry, smallest, Vacant}
+use Rattle.sweep_laws.specs.SegmentTree.{entriesIn, slots, Entry, entriesFrom, entries, leftOf, insertEntry, removeEntry, smallest, Vacant}
 
 -- ---- over the entries
 
@@ -342,3 +342,10 @@ module _ (width : ℕ) (nodes : List ℕ) (room : 2 * width ≤ length nodes) wh
       getD-take width (drop width nodes) s FFFF h
       ∙ getD-drop width nodes s FFFF
       ∙ getD-inside nodes (width + s) FFFF 0 (omega arith)
+
+-- the smallest place that there can be is found in its slot
+pub smallest-first : (width : ℕ) (nodes : List ℕ) → 2 * width ≤ length nodes → (from to slot first : ℕ) → from ≤ slot → slot < to → to ≤ width → first < FFFF → ((e : Entry) → Mem e (entriesIn width nodes) → first ≤ e .place) → getD nodes (width + slot) 0 ≡ first → first ≡ smallest (entriesIn width nodes) from to
+smallest-first width nodes room from to slot first starts below top some least holds =
+    let at-most : smallest (entriesIn width nodes) from to ≤ first = rw (← holds, ← slot-cell width nodes room slot (omega arith)) (smallest-le-slot (slots width nodes) from to slot starts below) in
+    let found = smallest-entry (entriesIn width nodes) from to (λ e. omega (arith, at-most)) in
+    omega (arith, at-most, least (found .entry) (found .held), found .least)

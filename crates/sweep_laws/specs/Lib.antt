@@ -5,8 +5,8 @@ pub mod Nodes
 pub mod VisitCount
 pub mod VisitBound
 pub mod VisitLevels
+pub mod SharedLevels
 pub mod NodeSpans
-pub mod RangeMinimum
 pub mod Levels
 pub mod WorkCells
 pub mod Sweeping

@@ -3,9 +3,7 @@
 use Prim.Native.Nat.{ℕ, zero, suc, _+_, _-_, _*_, _/_, _<_, _≤_, min}
 use mathlib.Core.Path.{_≡_, refl, sym, _∙_}
 use mathlib.Core.List.{List}
-use native.Mathlib.Nat.{zero-add, add-zero, suc-add, add-suc}
 use native.Mathlib.Omega.{arith}
-use native.Mathlib.Decide.{ℕ-discrete, decLe}
 use lib.ListN.{getD}
 use Rattle.model.specs.Tree.{FFFF}
 use Rattle.laws.specs.Least.{leastOf, least-cap, least-le, least-reached, least-append}
@@ -48,6 +46,13 @@ pub record Narrowed (kept width : ℕ) (nodes : List ℕ) (left right l r best :
   pub within : r ≤ 2 * width
   pub cap : best ≤ FFFF
   pub same : leastOf (nodeAt nodes) left (right - left) ≡ min best (leastOf (nodeAt nodes) l (r - l))
+
+-- the nodes of a span that is to be narrowed
+pub record Narrowable (kept width : ℕ) (nodes : List ℕ) (left right : ℕ) : Type 0 where
+  pub tree : SegmentTree kept width nodes
+  pub from-kept : kept ≤ left
+  pub order : left ≤ right
+  pub within : right ≤ 2 * width
 
 module _ (kept width : ℕ) (nodes : List ℕ) where
   pub narrowed-first : (left right : ℕ) → kept ≤ left → left ≤ right → right ≤ 2 * width → Narrowed kept width nodes left right left right FFFF
@@ -131,3 +136,12 @@ module _ (kept width : ℕ) (nodes : List ℕ) (s : SegmentTree kept width nodes
       (λ some.
       let i = least-reached f (width + from) (to - from) some in
       slot-of-node from to (i .0) (leastOf f (width + from) (to - from)) top (i .1) (i .2) (i .3))
+
+  -- what is left of it lies along one level
+  pub slots-narrowable : (from to : ℕ) → from ≤ to → to ≤ width → Narrowable kept width nodes (width + from) (width + to)
+  slots-narrowable from to order top = record { tree = s; from-kept = omega (arith, s .within); order = omega arith; within = omega arith }
+
+  pub narrowed-smallest : (from to left right best answer : ℕ) → to ≤ width → Narrowed kept width nodes (width + from) (width + to) left right best → answer ≡ min best (leastOf (nodeAt nodes) left (right - left)) → answer ≡ smallest (entriesIn width nodes) from to
+  narrowed-smallest from to left right best answer top n e =
+      let span : width + to - (width + from) ≡ to - from = omega arith in
+      e ∙ sym (n .same) ∙ rw span (slots-smallest from to top)

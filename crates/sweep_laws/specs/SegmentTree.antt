@@ -94,11 +94,13 @@ pub record Insertable (kept width : ℕ) (nodes : List ℕ) (slot place : ℕ) :
   pub some-place : place < FFFF
   pub vacant : Vacant slot (entriesIn width nodes)
 
--- the tree is to be searched up to the slot `to`
-pub record Searchable (levels kept width : ℕ) (nodes : List ℕ) (to : ℕ) : Type 0 where
+-- the tree is to be searched up to the slot `to`, and holds no place smaller than `first`
+pub record Searchable (levels kept width : ℕ) (nodes : List ℕ) (to first : ℕ) : Type 0 where
   pub tree : SegmentTree kept width nodes
   pub power : width ≡ 2 ^ levels
   pub inside : to ≤ width
+  pub some-place : first < FFFF
+  pub no-smaller : (e : Entry) → Mem e (entriesIn width nodes) → first ≤ e .place
 
 -- a search answers the smallest place in the slots from `from` up to `to`, and the nodes that document 01 counts for it
 pub record Minimum (levels width : ℕ) (nodes : List ℕ) (from to place count : ℕ) : Type 0 where

@@ -14,7 +14,7 @@ use Rattle.model.specs.Visits.{levels}
 use Rattle.model.specs.Planning.{pairCount}
 use Rattle.schedule.specs.Schedule.{Schedule, places, slotAt, fromAt, toAt, dueAt, fits, passesByPlace, visitsAt, visitsOf, Sound}
 use Rattle.schedule.specs.InWork.{slotPart, fromPart, toPart, reachedPart, duePart, matePart, openerPart, treePart, scheduleIn, passAt}
-use Rattle.sweep_laws.specs.SegmentTree.{Entry, entriesIn, SegmentTree, Insertable}
+use Rattle.sweep_laws.specs.SegmentTree.{Entry, entriesIn, SegmentTree, Insertable, Searchable}
 use Rattle.sweep_laws.specs.WorkCells.{FrontKept, treeIn}
 
 -- what a sweep of n places asks of the work cells
@@ -144,6 +144,13 @@ pub record PlaceRemovable (n kept width p : ℕ) (work : List ℕ) : Type 0 wher
   pub room : treePart * n ≤ length work
   pub tree : SegmentTree kept width (treeIn n work)
   pub slot-inside : getD work (slotPart * n + p) 0 < width
+
+-- a place whose mate is to be found: none that waits is at it or before it
+pub record MateSearchable (n level kept width p to : ℕ) (work : List ℕ) : Type 0 where
+  pub few : n ≤ jobLimit
+  pub inside : p < n
+  pub room : treePart * n ≤ length work
+  pub search : Searchable level kept width (treeIn n work) to (p + 1)
 
 -- two places that are to be paired
 pub record Pairable (n i q : ℕ) (work : List ℕ) : Type 0 where

@@ -1,8 +1,22 @@
--- How a lookup counts the cells that it visits without going down to them: an end of the span lies strictly inside a cell of a level
--- exactly if the cells' width does not divide it.
-use Prim.Native.Nat.{ℕ, _-_}
-use lib.Count.{trailingZeros}
+-- How a lookup counts the cells that it visits without going down to them: an end of the span lies strictly inside a cell of a level exactly if the cells'
+-- width does not divide it.
+use Prim.Native.Nat.{ℕ, _-_, _*_, _^_, _<_, _≤_, max}
+use mathlib.Core.Path.{_≡_}
+use lib.Bits.{bitXor}
+use lib.Count.{leadingZeros, trailingZeros}
 
 -- how many of the levels above `below`, up to `levels`, have a cell with x strictly inside, where x counts cells of level `below`
 unfoldable pub levelsInside : ℕ → ℕ → ℕ → ℕ
 levelsInside below levels x = levels - below - trailingZeros 64 x
+
+-- how many levels have a cell with both x and y strictly inside, for x < y: those above the highest digit in which the two differ, as there both lie in one cell,
+-- and past the trailing zeros of x. On these levels y is no border, since it has that digit
+unfoldable pub levelsShared : ℕ → ℕ → ℕ → ℕ
+levelsShared levels x y = levels - max (63 - leadingZeros 64 (bitXor x y)) (trailingZeros 64 x)
+
+-- a span of slots, not empty, whose visits are to be counted
+pub record Countable (levels width from to : ℕ) : Type 0 where
+  pub power : width ≡ 2 ^ levels
+  pub some : from < to
+  pub inside : to ≤ width
+  pub fits : 2 * width < 2 ^ 64

@@ -303,16 +303,16 @@ visits-splits k from to h top =
 
 -- ---- counting by trailing zeros
 
-zeros-even : (i n : ℕ) → n % 2 ≡ 0 → trailingZeros (suc i) n ≡ suc (trailingZeros i (n / 2))
+pub zeros-even : (i n : ℕ) → n % 2 ≡ 0 → trailingZeros (suc i) n ≡ suc (trailingZeros i (n / 2))
 unfolding trailingZeros
 zeros-even i n e = rw e
 
-zeros-odd : (i n : ℕ) → n % 2 ≡ 1 → trailingZeros (suc i) n ≡ 0
+pub zeros-odd : (i n : ℕ) → n % 2 ≡ 1 → trailingZeros (suc i) n ≡ 0
 unfolding trailingZeros
 zeros-odd i n e = rw e
 
 -- the zeros among fewer digits
-zeros-within : (k d n : ℕ) → k ≤ d → trailingZeros k n ≡ min k (trailingZeros d n)
+pub zeros-within : (k d n : ℕ) → k ≤ d → trailingZeros k n ≡ min k (trailingZeros d n)
 unfolding trailingZeros
 zeros-within zero d n h = omega arith
 zeros-within (suc k) zero n h = absurd (omega arith)

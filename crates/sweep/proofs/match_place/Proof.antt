@@ -8,34 +8,19 @@ use Rattle.sweep.proofs.match_place.Statement.{statement}
 use Rattle.sweep.proofs.match_place.Tie as tie
 
 remove-place-requires : tie.Need-remove-place-requires
-remove-place-requires c κs = let p = c .before .before .pre in asking-removable _ _ _ _ _ _ _ _ _ (p .2)
+remove-place-requires c κs = asking-removable _ _ _ _ _ _ _ _ _ (c .before .before .pre .2)
 
 from-at-requires : tie.Need-from-at-requires
-from-at-requires c κs = let p = c .before .before .before .before .before .before .pre in omega (arith, asking-room _ _ _ _ _ _ _ _ _ (p .2) _ (c .before .before .before .remove-place .ensures), p .2 .inside)
+from-at-requires c κs = let p = c .before .before .before .before .before .before .pre .2 in omega (arith, asking-room _ _ _ _ _ _ _ _ _ p _ (c .before .before .before .remove-place .ensures), p .inside)
 
-mul-start : tie.Need-mul-start
-mul-start c = let p = c .before .before .before .before .before .before .before .pre in omega (arith, p .2 .sweeping .setting .few)
-
-mul-range-minimum : tie.Need-mul-range-minimum
-mul-range-minimum c = let p = c .before .before .before .before .before .before .before .pre in omega (arith, p .2 .sweeping .setting .few)
-
-sub-range-minimum : tie.Need-sub-range-minimum
-sub-range-minimum c = let p = c .before .before .before .before .before .before .before .pre in asking-room _ _ _ _ _ _ _ _ _ (p .2) _ (c .before .before .before .before .remove-place .ensures)
-
-part-range-minimum-start : tie.Need-part-range-minimum-start
-part-range-minimum-start c = let p = c .before .before .before .before .before .before .before .before .pre in omega (arith, asking-room _ _ _ _ _ _ _ _ _ (p .2) _ (c .before .before .before .before .before .remove-place .ensures))
-
-part-range-minimum-end : tie.Need-part-range-minimum-end
-part-range-minimum-end c = search needs
-
-range-minimum-requires : tie.Need-range-minimum-requires
-range-minimum-requires c κs = let p = c .before .before .before .before .before .before .before .before .before .pre in asking-searchable _ _ _ _ _ _ _ _ _ (p .2) _ (c .before .before .before .before .before .before .remove-place .ensures)
+find-mate-requires : tie.Need-find-mate-requires
+find-mate-requires c κs = asking-searchable _ _ _ _ _ _ _ _ _ (c .before .before .before .before .before .before .before .before .pre .2) _ (c .before .before .before .before .before .remove-place .ensures)
 
 is-none-requires : tie.Need-is-none-requires
 is-none-requires c κs = search needs
 
 set-mate-requires : tie.Need-set-mate-requires
-set-mate-requires c κs = let p = c .before .before .before .before .before .before .before .before .before .before .before .before .before .before .pre in omega (arith, asking-room _ _ _ _ _ _ _ _ _ (p .2) _ (c .before .before .before .before .before .before .before .before .before .before .before .remove-place .ensures), p .2 .inside)
+set-mate-requires c κs = let p = c .before .before .before .before .before .before .before .before .before .before .before .before .before .pre .2 in omega (arith, asking-room _ _ _ _ _ _ _ _ _ p _ (c .before .before .before .before .before .before .before .before .before .before .remove-place .ensures), p .inside)
 
 same-length : tie.Need-same-length
 same-length c = search needs
@@ -43,17 +28,15 @@ same-length c = search needs
 returns : tie.Need-returns
 returns c = λ s next a.
     rw (c .before .before .set-mate .ensures)
-    (asked-alone _ _ _ _ _ _ _ _ _ a _ (c .before .before .before .before .before .before .before .before .before .before .before .before .before .before .remove-place .ensures) _ _ _ (c .before .before .before .before .before .before .before .before .before .before .from-at .ensures) (c .before .before .before .before .before .before .before .range-minimum .ensures) (eqb-true _ _ (sym (c .before .before .before .before .before .is-none .ensures) ∙ c .before .before .before .before .if1 .taken)))
+    (asked-alone _ _ _ _ _ _ _ _ _ a _ (c .before .before .before .before .before .before .before .before .before .before .before .before .before .remove-place .ensures) _ _ _ (c .before .before .before .before .before .before .before .before .before .from-at .ensures) (c .before .before .before .before .before .before .before .find-mate .ensures) (eqb-true _ _ (sym (c .before .before .before .before .before .is-none .ensures) ∙ c .before .before .before .before .if1 .taken)))
 
 remove-place-requires-2 : tie.Need-remove-place-requires-2
 remove-place-requires-2 c κs =
-    let p = c .before .before .before .before .before .before .before .before .before .before .before .before .before .before .pre in
-    mate-removable _ _ _ _ _ _ _ _ _ (p .2) _ (c .before .before .before .before .before .before .before .before .before .before .before .remove-place .ensures) _ _ _ (c .before .before .before .before .before .before .before .from-at .ensures) (c .before .before .before .before .range-minimum .ensures) (eqb-false _ _ (sym (c .before .before .is-none .ensures) ∙ c .before .if1 .left))
+    mate-removable _ _ _ _ _ _ _ _ _ (c .before .before .before .before .before .before .before .before .before .before .before .before .before .pre .2) _ (c .before .before .before .before .before .before .before .before .before .before .remove-place .ensures) _ _ _ (c .before .before .before .before .before .before .from-at .ensures) (c .before .before .before .before .find-mate .ensures) (eqb-false _ _ (sym (c .before .before .is-none .ensures) ∙ c .before .if1 .left))
 
 set-pair-requires : tie.Need-set-pair-requires
 set-pair-requires c κs =
-    let p = c .before .before .before .before .before .before .before .before .before .before .before .before .before .before .before .before .before .before .pre in
-    mate-pairable _ _ _ _ _ _ _ _ _ (p .2) _ (c .before .before .before .before .before .before .before .before .before .before .before .before .before .before .before .remove-place .ensures) _ _ _ (c .before .before .before .before .before .before .before .before .before .before .before .from-at .ensures) (c .before .before .before .before .before .before .before .before .range-minimum .ensures) (eqb-false _ _ (sym (c .before .before .before .before .before .before .is-none .ensures) ∙ c .before .before .before .before .before .if1 .left)) _ (c .before .before .before .remove-place2 .ensures)
+    mate-pairable _ _ _ _ _ _ _ _ _ (c .before .before .before .before .before .before .before .before .before .before .before .before .before .before .before .before .before .pre .2) _ (c .before .before .before .before .before .before .before .before .before .before .before .before .before .before .remove-place .ensures) _ _ _ (c .before .before .before .before .before .before .before .before .before .before .from-at .ensures) (c .before .before .before .before .before .before .before .before .find-mate .ensures) (eqb-false _ _ (sym (c .before .before .before .before .before .before .is-none .ensures) ∙ c .before .before .before .before .before .if1 .left)) _ (c .before .before .before .remove-place2 .ensures)
 
 same-length-2 : tie.Need-same-length-2
 same-length-2 c = search needs
@@ -61,7 +44,7 @@ same-length-2 c = search needs
 returns-2 : tie.Need-returns-2
 returns-2 c = λ s next a.
     rw (c .before .before .set-pair .ensures)
-    (asked-pair _ _ _ _ _ _ _ _ _ a _ (c .before .before .before .before .before .before .before .before .before .before .before .before .before .before .before .before .before .before .remove-place .ensures) _ _ _ (c .before .before .before .before .before .before .before .before .before .before .before .before .before .before .from-at .ensures) (c .before .before .before .before .before .before .before .before .before .before .before .range-minimum .ensures) (eqb-false _ _ (sym (c .before .before .before .before .before .before .before .before .before .is-none .ensures) ∙ c .before .before .before .before .before .before .before .before .if1 .left)) _ (c .before .before .before .before .before .before .remove-place2 .ensures))
+    (asked-pair _ _ _ _ _ _ _ _ _ a _ (c .before .before .before .before .before .before .before .before .before .before .before .before .before .before .before .before .before .remove-place .ensures) _ _ _ (c .before .before .before .before .before .before .before .before .before .before .before .before .before .from-at .ensures) (c .before .before .before .before .before .before .before .before .before .before .before .find-mate .ensures) (eqb-false _ _ (sym (c .before .before .before .before .before .before .before .before .before .is-none .ensures) ∙ c .before .before .before .before .before .before .before .before .if1 .left)) _ (c .before .before .before .before .before .before .remove-place2 .ensures))
 
 pub match-place-spec : {M : Type 1} → statement M
 match-place-spec =
@@ -69,12 +52,7 @@ match-place-spec =
     (tie.spec
     remove-place-requires
     from-at-requires
-    mul-start
-    mul-range-minimum
-    sub-range-minimum
-    part-range-minimum-start
-    part-range-minimum-end
-    range-minimum-requires
+    find-mate-requires
     is-none-requires
     set-mate-requires
     same-length

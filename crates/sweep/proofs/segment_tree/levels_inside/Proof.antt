@@ -12,20 +12,13 @@ returns : tie.Need-returns
 unfolding levelsInside
 returns c = omega arith
 
-sub-above : tie.Need-sub-above
-sub-above c = omega arith
+sub-result : tie.Need-sub-result
+sub-result c = omega arith
 
 returns-2 : tie.Need-returns-2
 unfolding levelsInside
 returns-2 c = omega arith
 
-sub-result : tie.Need-sub-result
-sub-result c = omega arith
-
-returns-3 : tie.Need-returns-3
-unfolding levelsInside
-returns-3 c = omega arith
-
 pub levels-inside-spec : {M : Type 1} → statement M
 levels-inside-spec =
-    tie.close (tie.spec cast-zeros returns sub-above returns-2 sub-result returns-3)
+    tie.close (tie.spec cast-zeros returns sub-result returns-2)

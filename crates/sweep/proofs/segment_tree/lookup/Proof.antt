@@ -1,0 +1,53 @@
+-- An empty span holds nothing; where the smallest place that there can be stands in the span it is the smallest; else the span is searched.
+use mathlib.Core.Path.{sym}
+use native.Mathlib.Omega.{arith}
+use borrow.Author.Tests.{ltb-true}
+use Rattle.sweep_laws.specs.EntryLaws.{smallest-empty, smallest-first}
+use Rattle.sweep_laws.specs.VisitBound.{visits-empty}
+use Rattle.sweep.proofs.segment_tree.lookup.Statement.{statement}
+use Rattle.sweep.proofs.segment_tree.lookup.Tie as tie
+
+returns : tie.Need-returns
+returns c =
+    record {
+      place-is = sym (smallest-empty _ _ _ (c .if1 .taken));
+      visits-are = sym (visits-empty _ _ _ (c .if1 .taken));
+    }
+
+count-visits-requires : tie.Need-count-visits-requires
+count-visits-requires c κs = record { power = c .before .before .pre .power; some = omega (arith, c .if1 .left); inside = c .before .before .pre .inside; fits = omega (arith, c .before .before .pre .tree .room, c .before .before .good .0 .0) }
+
+add-if4 : tie.Need-add-if4
+add-if4 c = omega (arith, ltb-true (c .before .before .before .before .before .before .args .slot) (c .before .before .before .before .before .before .args .to) (c .before .if3 .taken), c .before .before .before .before .before .before .pre .inside, c .before .before .before .before .before .before .pre .tree .room, c .before .before .before .before .before .before .good .0 .0)
+
+mul-if4 : tie.Need-mul-if4
+mul-if4 c = omega (arith, ltb-true (c .before .before .before .before .before .before .args .slot) (c .before .before .before .before .before .before .args .to) (c .before .if3 .taken), c .before .before .before .before .before .before .pre .inside, c .before .before .before .before .before .before .pre .tree .room, c .before .before .before .before .before .before .good .0 .0)
+
+shared-slice-read-if4 : tie.Need-shared-slice-read-if4
+shared-slice-read-if4 c = omega (arith, ltb-true (c .before .before .before .before .before .before .before .args .slot) (c .before .before .before .before .before .before .before .args .to) (c .before .before .if3 .taken), c .before .before .before .before .before .before .before .pre .inside, c .before .before .before .before .before .before .before .pre .tree .room)
+
+returns-2 : tie.Need-returns-2
+returns-2 c =
+    record {
+      place-is = smallest-first _ _ (c .before .before .before .before .before .before .before .before .before .pre .tree .room) _ _ _ _ (c .before .before .before .before .before .if2 .taken) (ltb-true _ _ (c .before .before .before .before .if3 .taken)) (c .before .before .before .before .before .before .before .before .before .pre .inside) (c .before .before .before .before .before .before .before .before .before .pre .some-place) (c .before .before .before .before .before .before .before .before .before .pre .no-smaller) (c .if4 .taken);
+      visits-are = c .before .before .before .before .before .before .count-visits .ensures;
+    }
+
+range-minimum-requires : tie.Need-range-minimum-requires
+range-minimum-requires c κs = (c .before .before .before .before .pre .tree, (omega (arith, c .before .before .if1 .left), c .before .before .before .before .pre .inside))
+
+returns-3 : tie.Need-returns-3
+returns-3 c = record { place-is = c .range-minimum .ensures; visits-are = c .before .before .count-visits .ensures }
+
+pub lookup-spec : {M : Type 1} → statement M
+lookup-spec =
+    tie.close
+    (tie.spec
+    returns
+    count-visits-requires
+    add-if4
+    mul-if4
+    shared-slice-read-if4
+    returns-2
+    range-minimum-requires
+    returns-3)
