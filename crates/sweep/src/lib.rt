@@ -89,14 +89,7 @@ fn slot_after(work: &[u16], count: usize, place: Rank) -> usize
 }
 
 // Looks for the mate of a place that waits no longer, in the slots from `from` up to `to`. The next place is the first that can be its mate.
-fn find_mate(
-    work: &[u16],
-    count: usize,
-    shape: Shape,
-    place: Rank,
-    from: usize,
-    to: usize,
-) -> Found
+fn find_mate(work: &[u16], count: usize, shape: Shape, place: Rank, from: usize, to: usize) -> Found
     requires { ⌜ MateSearchable count (shape .levels) (shape .kept) (shape .width) (place .0) to (now work) ⌝ }
     ensures { λ r. ⌜ Minimum (shape .levels) (shape .width) (treeIn count (now (work .entry))) from to (r .place .0) (r .visits) ⌝ }
 {
