@@ -1,4 +1,4 @@
--- Document 01's number and values for each case of an enum that an operation answers.
+-- Document 01's number and values for each case of an enum that an operation answers (docs/RULES.md, 8; for one line of the table, 10).
 use Prim.Native.Nat.{ℕ}
 use mathlib.Core.Option.{Option, none, some}
 use mathlib.Core.List.{[], _∷_}

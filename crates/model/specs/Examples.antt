@@ -1,4 +1,4 @@
--- Document 01's worked tables ("Tables to try", those marked ◆), and what is printed for some: one table of examples, and one fact about it.
+-- The worked tables (docs/RULES.md, 15; document 01, "Tables to try", those marked ◆), and what is printed for some: one table of examples, and one fact.
 use Prim.Native.Nat.{ℕ}
 use mathlib.Core.Path.{_≡_, refl}
 use mathlib.Core.List.{List, [], _∷_, _++_, map, flatMap, headD}

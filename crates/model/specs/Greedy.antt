@@ -1,4 +1,4 @@
--- The matching rule (000, Algorithm 1): each vertex still free at its turn takes the first free later vertex that it is compatible with.
+-- The matching rule (docs/RULES.md, 6; 000, Algorithm 1): each vertex still free at its turn takes the first free later vertex that it is compatible with.
 use Prim.Native.Nat.{ℕ, zero, suc}
 use mathlib.Core.Bool.{Bool, not, _&&_}
 use mathlib.Core.Option.{Option, none, some}

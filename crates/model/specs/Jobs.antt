@@ -1,4 +1,4 @@
--- Jobs as downward paths, and sharing (document 01, "The tree and the running order"; 000, Definition 3).
+-- Jobs as downward paths, and sharing (docs/RULES.md, 4; document 01, "The tree and the running order"; 000, Definition 3).
 use Prim.Native.Nat.{ℕ}
 use mathlib.Core.Bool.{Bool, cond, not, _||_}
 use mathlib.Core.List.{List, [], _∷_, headD}

@@ -1,4 +1,4 @@
--- Plain functions on lists of numbers that the other definitions are written in. Nothing here is of document 01.
+-- Plain functions on lists of numbers that the other definitions are written in (docs/RULES.md, 1). Nothing here is of document 01.
 use Prim.Native.Nat.{ℕ, zero, suc, _+_}
 use mathlib.Core.Bool.{Bool, true, false, cond, _&&_, _||_}
 use mathlib.Core.Option.{Option, none, some}

@@ -1,4 +1,4 @@
--- The full outcome of each public operation: the answer, and each lent buffer as the call leaves it (marked ′).
+-- The full outcome of each public operation (docs/RULES.md, 8 to 11, 13 and 14): the answer, and each lent buffer as the call leaves it (marked ′).
 use Prim.Native.Nat.{ℕ}
 use mathlib.Core.Path.{_≡_}
 use mathlib.Core.List.{List, [], _∷_, _++_}

@@ -1,4 +1,4 @@
--- The plan's lines and the whole run (document 01, "The plan", and *Whole run* of "What each operation turns away").
+-- The plan's lines and the whole run (docs/RULES.md, 13, and docs/FORMAT.md; document 01, "The plan", and *Whole run* of "What each operation turns away").
 use Prim.Native.Nat.{ℕ, zero, suc, _+_, _/_, _%_}
 use mathlib.Core.Bool.{cond}
 use mathlib.Core.List.{List, [], _∷_, _++_, flatMap}

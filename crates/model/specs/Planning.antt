@@ -1,4 +1,4 @@
--- What *Plan* turns away and what it gives back (document 01, "What each operation turns away").
+-- What *Plan* turns away and what it gives back (docs/RULES.md, 11 and 6; document 01, "What each operation turns away").
 use Prim.Native.Nat.{ℕ, _-_}
 use mathlib.Core.Bool.{cond, not, _||_}
 use mathlib.Core.List.{List, [], _∷_, map, foldr}

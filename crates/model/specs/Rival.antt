@@ -1,5 +1,5 @@
--- Rival plans and the cut (document 01). A plan is here a set of pairs of job numbers: a matching of the jobs in the graph of who shares with whom. A rival
--- plan is any matching, a cut the end of a prefix of the running order.
+-- Rival plans and the cut (docs/RULES.md, 14; document 01, "Rival plans and the cut"). A plan is here a set of pairs of job numbers: a matching of the jobs in
+-- the graph of who shares with whom. A rival plan is any matching, a cut the end of a prefix of the running order.
 use Prim.Native.Nat.{ℕ, _+_, _*_, _<_, _≤_}
 use mathlib.Core.Path.{_≡_}
 use mathlib.Core.Logic.{_≢_}

@@ -1,4 +1,4 @@
--- The shared stretch of two lists of layout numbers (document 01, "Shared stretch"): which list it begins, how long it is, and what the
+-- The shared stretch of two lists of layout numbers (docs/RULES.md, 12; document 01, "Shared stretch"): which list it begins, how long it is, and what the
 -- answer, a lent part of that list, has to be.
 use Prim.Native.Nat.{ℕ, suc}
 use mathlib.Core.Path.{_≡_}

@@ -1,4 +1,4 @@
--- The table's meaning, line by line (document 01, "The table", and *Read a table* of "What each operation turns away").
+-- The table's meaning, line by line (docs/RULES.md, 10; docs/FORMAT.md; document 01, "The table", *Read a table* of "What each operation turns away").
 use Prim.Native.Nat.{ℕ, suc, _+_, _-_, _*_}
 use mathlib.Core.Bool.{Bool, true, false, cond, not, _||_, _&&_}
 use mathlib.Core.Option.{Option, none, some}

@@ -1,4 +1,4 @@
--- The tree of layouts (document 01, "The tree and the running order"; 000, section 2): a list ps of parents, layout 0 the root.
+-- The tree of layouts (docs/RULES.md, 3 and 9; document 01, "The tree and the running order"; 000, section 2): a list ps of parents, layout 0 the root.
 use Prim.Native.Nat.{ℕ, zero, suc, pred}
 use mathlib.Core.Bool.{Bool, not, _||_}
 use mathlib.Core.List.{List, [], _∷_, _++_, map, headD, flatMap}

@@ -1,4 +1,4 @@
--- Refusals and answers (document 01, "What each operation turns away"): a number and a place, the first ground that applies.
+-- Refusals and answers (docs/RULES.md, 8; document 01, "What each operation turns away"): a number and a place, the first ground that applies.
 use Prim.Native.Nat.{ℕ, _-_}
 use mathlib.Core.Bool.{Bool, cond}
 use mathlib.Core.List.{List, _++_}

@@ -1,5 +1,5 @@
--- The visits of a lookup (document 01, "The shelf and its cells"). The shelf is a segment tree over the slots, a cell one of its nodes, a lookup a query for the
--- smallest place in a span of slots (range minimum).
+-- The visits of a lookup (docs/RULES.md, 7; document 01, "The shelf and its cells"). The shelf is a segment tree over the slots, a cell one of its nodes, a
+-- lookup a query for the smallest place in a span of slots (range minimum).
 use Prim.Native.Nat.{ℕ, zero, suc, _+_, _^_}
 use mathlib.Core.Bool.{Bool, cond, _||_, _&&_}
 use mathlib.Core.List.{List, headD}
