@@ -1,0 +1,80 @@
+//! Draws a table with its plan: `picture [--cut M] [FILE]`, the table from standard input where no
+//! file is named; the picture goes to standard output.
+
+use std::env;
+use std::fs;
+use std::io::{self, Read, Write};
+use std::path::Path;
+use std::process::ExitCode;
+use tests::picture::answer::product_answer;
+use tests::picture::{picture, Options};
+
+const USAGE: &str = "usage: picture [--cut M] [FILE]";
+
+fn main() -> ExitCode {
+    match request().and_then(drawn) {
+        Ok(text) => written(&text),
+        Err(reason) => {
+            eprintln!("picture: {reason}");
+            ExitCode::FAILURE
+        }
+    }
+}
+
+/// What the command line asks for.
+#[derive(Default)]
+struct Request {
+    file: Option<String>,
+    cut: Option<usize>,
+}
+
+fn request() -> Result<Request, String> {
+    let mut request = Request::default();
+    let mut arguments = env::args().skip(1);
+    while let Some(argument) = arguments.next() {
+        match argument.as_str() {
+            "--cut" => request.cut = Some(number(arguments.next())?),
+            _ if argument.starts_with("--") || request.file.is_some() => {
+                return Err(USAGE.to_string());
+            }
+            _ => request.file = Some(argument),
+        }
+    }
+    Ok(request)
+}
+
+fn number(argument: Option<String>) -> Result<usize, String> {
+    let number = argument.and_then(|text| text.parse().ok());
+    number.ok_or_else(|| USAGE.to_string())
+}
+
+fn drawn(request: Request) -> Result<String, String> {
+    let bytes = table_bytes(request.file.as_deref()).map_err(|error| error.to_string())?;
+    let options = Options {
+        name: name(request.file.as_deref()),
+        cut: request.cut,
+    };
+    picture(&bytes, &product_answer(&bytes)?, &options)
+}
+
+fn table_bytes(file: Option<&str>) -> io::Result<Vec<u8>> {
+    let mut bytes = Vec::new();
+    match file {
+        Some(file) => bytes = fs::read(file)?,
+        None => drop(io::stdin().lock().read_to_end(&mut bytes)?),
+    }
+    Ok(bytes)
+}
+
+/// The file's name without folder and ending.
+fn name(file: Option<&str>) -> String {
+    let stem = file.and_then(|file| Path::new(file).file_stem());
+    stem.map_or("a table".to_string(), |stem| stem.to_string_lossy().into())
+}
+
+fn written(text: &str) -> ExitCode {
+    match io::stdout().lock().write_all(text.as_bytes()) {
+        Ok(()) => ExitCode::SUCCESS,
+        Err(_) => ExitCode::FAILURE,
+    }
+}
