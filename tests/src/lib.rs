@@ -2,11 +2,13 @@
 //! document 01's own tables, buffers with guard cells, the proved operations through their static
 //! library, and a whole run by hand to measure theirs against.
 
+pub mod browser;
 pub mod by_hand;
 pub mod examples;
 pub mod lent;
 pub mod library;
 pub mod made;
+pub mod page;
 pub mod picture;
 pub mod picture_checks;
 pub mod plan_checks;

@@ -1,15 +1,17 @@
-//! Draws a table with its plan: `picture [--cut M] [FILE]`, the table from standard input where no
-//! file is named; the picture goes to standard output.
+//! Draws a table with its plan: `picture [--cut M] [--page] [FILE]`, the table from standard input
+//! where no file is named. The picture, or the page with the picture and the sweep turn by turn,
+//! goes to standard output.
 
 use std::env;
 use std::fs;
 use std::io::{self, Read, Write};
 use std::path::Path;
 use std::process::ExitCode;
+use tests::page::page;
 use tests::picture::answer::product_answer;
 use tests::picture::{picture, Options};
 
-const USAGE: &str = "usage: picture [--cut M] [FILE]";
+const USAGE: &str = "usage: picture [--cut M] [--page] [FILE]";
 
 fn main() -> ExitCode {
     match request().and_then(drawn) {
@@ -26,6 +28,7 @@ fn main() -> ExitCode {
 struct Request {
     file: Option<String>,
     cut: Option<usize>,
+    page: bool,
 }
 
 fn request() -> Result<Request, String> {
@@ -33,6 +36,7 @@ fn request() -> Result<Request, String> {
     let mut arguments = env::args().skip(1);
     while let Some(argument) = arguments.next() {
         match argument.as_str() {
+            "--page" => request.page = true,
             "--cut" => request.cut = Some(number(arguments.next())?),
             _ if argument.starts_with("--") || request.file.is_some() => {
                 return Err(USAGE.to_string());
@@ -54,7 +58,11 @@ fn drawn(request: Request) -> Result<String, String> {
         name: name(request.file.as_deref()),
         cut: request.cut,
     };
-    picture(&bytes, &product_answer(&bytes)?, &options)
+    let answer = product_answer(&bytes)?;
+    match request.page {
+        true => page(&bytes, &answer, &options),
+        false => picture(&bytes, &answer, &options).map(|drawn| drawn.written()),
+    }
 }
 
 fn table_bytes(file: Option<&str>) -> io::Result<Vec<u8>> {

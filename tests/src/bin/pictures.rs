@@ -124,7 +124,7 @@ fn draw(bytes: &[u8], name: &str, cut: Option<usize>) -> Result<Drawn, String> {
     let answer = product_answer(bytes)?;
     let name = name.to_string();
     Ok(Drawn {
-        picture: picture(bytes, &answer, &Options { name, cut })?,
+        picture: picture(bytes, &answer, &Options { name, cut })?.written(),
         legible: matches!(&answer, Answer::Planned(planned) if is_legible(planned)),
     })
 }

@@ -13,7 +13,7 @@ const ENTRY: i32 = 330;
 const SAMPLE: i32 = 36;
 
 /// An entry: how its sample is drawn, the left end of its middle line given, and its words.
-type Entry = (fn(Point) -> Element, &'static str);
+pub type Entry = (fn(Point) -> Element, &'static str);
 
 const LAYOUT: Entry = (layout_sample, "layout: its children stand below it");
 const LANE_ONE: Entry = (

@@ -51,6 +51,7 @@ text { font-family: sans-serif; font-size: 13px; fill: #000000; }
 .badge { fill: #FFFFFF; stroke: #000000; stroke-width: 2; }
 .dot { fill: #000000; }
 .arc { fill: none; stroke: #000000; stroke-width: 1.5; }
+.row { fill: none; }
 .leader { stroke: #999999; stroke-dasharray: 1 4; }
 .press { fill: none; stroke: #595959; }
 .cut { stroke: #D55E00; stroke-width: 2.5; stroke-dasharray: 8 4; }
@@ -191,6 +192,7 @@ pub fn job_shape(planned: &Planned, job: usize, area: Area, mark: &str) -> Eleme
     let role = planned.role(job);
     shape(role, area, mark)
         .with("data-job", job)
+        .with("data-in", planned.pass_of(job).number)
         .holding_all(plate(job, area))
 }
 

@@ -12,6 +12,7 @@ pub struct Element {
 enum Child {
     Element(Element),
     Text(String),
+    Raw(&'static str),
 }
 
 pub fn element(name: &'static str) -> Element {
@@ -34,6 +35,13 @@ impl Element {
 
     pub fn text(mut self, text: impl Display) -> Element {
         self.children.push(Child::Text(text.to_string()));
+        self
+    }
+
+    /// A style or a script, which HTML takes as it stands; without < and & XML does so too.
+    pub fn raw(mut self, text: &'static str) -> Element {
+        assert!(!text.contains(['<', '&']), "{} as it stands", self.name);
+        self.children.push(Child::Raw(text));
         self
     }
 
@@ -81,7 +89,7 @@ impl Element {
 
     /// Whether blanks between its parts would be seen, since text stands in it.
     fn is_inline(&self) -> bool {
-        let is_text = |child: &Child| matches!(child, Child::Text(_));
+        let is_text = |child: &Child| !matches!(child, Child::Element(_));
         self.name == "text" || self.children.iter().any(is_text)
     }
 
@@ -89,6 +97,7 @@ impl Element {
         for child in &self.children {
             match child {
                 Child::Text(text) => out.push_str(&escaped(text)),
+                Child::Raw(text) => out.push_str(text),
                 Child::Element(element) => out.push_str(element.written().trim_end()),
             }
         }

@@ -3,20 +3,21 @@
 //! drawn.
 
 pub mod answer;
-mod legend;
-mod look;
+pub mod legend;
+pub mod look;
 mod many;
 pub mod markup;
-mod order;
+pub mod order;
 pub mod planned;
 mod refused;
-mod sheet;
+pub mod sheet;
 mod tracks;
-mod tree;
+pub mod tree;
 
 use crate::reference::Refusal;
 use answer::Answer;
 use look::Panel;
+use markup::Element;
 use planned::Planned;
 use sheet::Sheet;
 
@@ -41,14 +42,14 @@ pub struct Options {
 }
 
 /// The picture of a product's answer, or why there is none.
-pub fn picture(bytes: &[u8], answer: &Answer, options: &Options) -> Result<String, String> {
+pub fn picture(bytes: &[u8], answer: &Answer, options: &Options) -> Result<Element, String> {
     match answer {
         Answer::Refused(refusal) => Ok(refused_picture(bytes, *refusal, options)),
         Answer::Planned(planned) => planned_picture(planned, options),
     }
 }
 
-fn refused_picture(bytes: &[u8], refusal: Refusal, options: &Options) -> String {
+fn refused_picture(bytes: &[u8], refusal: Refusal, options: &Options) -> Element {
     let Refusal { number, place } = refusal;
     let said = vec![
         format!("Line {place}: {}.", refused::words(refusal)),
@@ -61,7 +62,7 @@ fn refused_picture(bytes: &[u8], refusal: Refusal, options: &Options) -> String 
 }
 
 /// The picture of a planned table.
-pub fn planned_picture(planned: &Planned, options: &Options) -> Result<String, String> {
+pub fn planned_picture(planned: &Planned, options: &Options) -> Result<Element, String> {
     let jobs = planned.order.len();
     match options.cut {
         Some(cut) if cut > jobs => Err(format!("a cut of {jobs} jobs is at most {jobs}")),
@@ -75,7 +76,7 @@ pub fn is_legible(planned: &Planned) -> bool {
     planned.order.len() <= JOBS_DRAWN && planned.table.layouts() <= LAYOUTS_DRAWN
 }
 
-fn whole_picture(planned: &Planned, options: &Options) -> String {
+fn whole_picture(planned: &Planned, options: &Options) -> Element {
     let mut sheet = Sheet::new(&title(options), vec![totals(planned)]);
     let corner = sheet.corner();
     let tree = tree::draw(planned, corner);
@@ -102,7 +103,7 @@ fn is_wide(tree: &Panel, order: &Panel) -> bool {
     width > WIDE && width > 2 * tree.height.max(order.height)
 }
 
-fn passes_alone(planned: &Planned, options: &Options) -> String {
+fn passes_alone(planned: &Planned, options: &Options) -> Element {
     let mut said = vec![
         totals(planned),
         format!("The passes alone: the tree is drawn for at most {JOBS_DRAWN} jobs and {LAYOUTS_DRAWN} layouts."),
@@ -120,7 +121,7 @@ fn passes_alone(planned: &Planned, options: &Options) -> String {
     sheet.finish()
 }
 
-fn title(options: &Options) -> String {
+pub fn title(options: &Options) -> String {
     format!("Plan of {}", options.name)
 }
 
@@ -131,7 +132,7 @@ fn add_legend(sheet: &mut Sheet, planned: &Planned, with_tree: bool) {
 }
 
 /// The table and its plan in numbers.
-fn totals(planned: &Planned) -> String {
+pub fn totals(planned: &Planned) -> String {
     let totals = planned.plan.totals;
     format!(
         "{} and {}: {} passes, of them {} and {} alone.",
@@ -144,7 +145,7 @@ fn totals(planned: &Planned) -> String {
 }
 
 /// A count with its noun.
-fn counted(count: usize, noun: &str) -> String {
+pub fn counted(count: usize, noun: &str) -> String {
     let plural = if count == 1 { "" } else { "s" };
     format!("{count} {noun}{plural}")
 }

@@ -144,8 +144,15 @@ impl Column<'_> {
                 words,
             )
         };
+        let whole = Area {
+            x: self.at.x,
+            y: row - ROW / 2,
+            width: ARCS - 8,
+            height: ROW,
+        };
         group("place")
             .with("data-place", place)
+            .holding(rectangle("row", whole))
             .holding(said("right faint", PLACE, place.to_string()))
             .holding(job_shape(self.planned, job, self.chip(JOB, row), "placed"))
             .holding(said("", PATH, path))
@@ -227,7 +234,7 @@ impl Column<'_> {
         group("leaders").holding_all(alone.map(|pass| {
             let row = self.row(self.planned.place(pass.opener));
             let to = self.point(self.alone() - self.at.x - 4, row);
-            line("leader", self.point(ARCS, row), to)
+            line("leader", self.point(ARCS, row), to).with("data-pass", pass.number)
         }))
     }
 
@@ -235,7 +242,8 @@ impl Column<'_> {
         let passes = self.planned.passes.iter().zip(&self.arcs);
         group("arcs").holding_all(passes.filter_map(|(pass, &track)| {
             let (other, _) = pass.partner?;
-            Some(self.arc(pass.opener, other, track))
+            let arc = self.arc(pass.opener, other, track);
+            Some(arc.with("data-pass", pass.number))
         }))
     }
 

@@ -65,7 +65,7 @@ impl Sheet {
         self.width
     }
 
-    pub fn finish(self) -> String {
+    pub fn finish(self) -> Element {
         let (width, height) = (self.width + 2 * MARGIN, self.y);
         let paper = Area {
             x: 0,
@@ -74,8 +74,8 @@ impl Sheet {
             height,
         };
         let label = format!("{}. {}", self.title, self.said.join(". "));
-        let drawn = svg(width, height, &label)
-            .holding(element("style").text(STYLE))
+        svg(width, height, &label)
+            .holding(element("style").raw(STYLE))
             .holding(patterns())
             .holding(rectangle("paper", paper))
             .holding(text("title", self.line(0), &self.title))
@@ -84,8 +84,7 @@ impl Sheet {
                     .zip(&self.said)
                     .map(|(line, words)| text("said", self.line(line), words)),
             )
-            .holding_all(self.parts);
-        drawn.written()
+            .holding_all(self.parts)
     }
 
     /// Where a line of the head stands; the title is line 0.

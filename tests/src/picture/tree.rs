@@ -158,7 +158,7 @@ impl Rungs<'_> {
     fn lines(&self, columns: &Columns, rows: &Rows) -> Element {
         let drawn = self.rungs.iter().map(|rung| {
             let (from, to) = self.points(rung, columns, rows);
-            line("rung", from, to)
+            line("rung", from, to).with("data-pass", rung.pass.number)
         });
         group("rungs").holding_all(drawn)
     }
