@@ -8,36 +8,48 @@ use crate::reference::rivals::{pairs_before_cuts, pairs_of};
 use crate::reference::run::run;
 use crate::reference::table::read;
 use crate::reference::{Refusal, Table};
-use crate::report::Outcome;
+use crate::report::{same, Outcome};
 use crate::well_formed::{elements, Seen};
 
-/// That a picture is well formed and holds what it must. `legible` says whether the tree is drawn.
+/// What a picture of a plan must hold.
+pub struct Expected {
+    pub table: Table,
+    /// The jobs by place.
+    pub order: Vec<usize>,
+    pub passes: Vec<(Jobs, Printed)>,
+}
+
+/// The jobs of a pass, and the layout that a pair prints on.
+pub type Jobs = Vec<usize>;
+pub type Printed = Option<usize>;
+
+/// That a picture is well formed and holds what it must of the product's answer. `legible` says
+/// whether the tree is drawn.
 pub fn check_picture(picture: &str, bytes: &[u8], cut: Option<usize>, legible: bool) -> Outcome {
-    let drawing = Drawing {
-        elements: elements(picture)?,
-    };
-    drawing.names_patterns()?;
-    drawing.stays_on_its_sheet()?;
+    let drawing = Drawing::read(picture)?;
     match read(bytes) {
         Err(refusal) => drawing.shows_refusal(bytes, refusal),
         Ok(table) => {
-            drawing.holds_passes(&table, bytes)?;
+            let expected = Expected {
+                order: running_order(&table),
+                passes: passes_of_lines(&run(bytes)),
+                table,
+            };
+            drawing.holds_passes(&expected)?;
             if legible {
-                drawing.holds_layouts(&table)?;
-                drawing.holds_places(&table)?;
-                drawing.holds_paths(&table)?;
-                drawing.shows_cut(&table, cut)?;
+                drawing.holds_tree_and_order(&expected)?;
+                drawing.shows_cut(&expected.table, cut)?;
             }
-            drawing.dims_behind_cut(&table, cut)
+            drawing.dims_behind_cut(&expected, cut)
         }
     }
 }
 
-pub fn same<T: PartialEq + std::fmt::Debug>(name: &str, found: T, expected: T) -> Outcome {
-    if found == expected {
-        return Ok(());
-    }
-    Err(format!("{name}: {found:?}, not {expected:?}"))
+/// That a picture is well formed and holds a plan, whoever made it.
+pub fn check_plan(picture: &str, expected: &Expected) -> Outcome {
+    let drawing = Drawing::read(picture)?;
+    drawing.holds_passes(expected)?;
+    drawing.holds_tree_and_order(expected)
 }
 
 struct Drawing {
@@ -63,6 +75,15 @@ impl Extent {
 }
 
 impl Drawing {
+    fn read(picture: &str) -> Result<Drawing, String> {
+        let drawing = Drawing {
+            elements: elements(picture)?,
+        };
+        drawing.names_patterns()?;
+        drawing.stays_on_its_sheet()?;
+        Ok(drawing)
+    }
+
     fn of_class<'a>(&'a self, class: &'a str) -> impl Iterator<Item = usize> + 'a {
         (0..self.elements.len()).filter(move |&at| self.elements[at].has_class(class))
     }
@@ -162,15 +183,15 @@ impl Drawing {
         Ok(())
     }
 
-    /// Each job once, and the passes as the plan's lines have them.
-    fn holds_passes(&self, table: &Table, bytes: &[u8]) -> Outcome {
+    /// Each job once, and the passes expected.
+    fn holds_passes(&self, expected: &Expected) -> Outcome {
+        let Expected { table, passes, .. } = expected;
         let mut jobs = self.numbers("job", "data-job");
         jobs.sort();
         same("jobs", jobs, (0..table.jobs()).map(Some).collect())?;
-        let lines = passes_of_lines(&run(bytes));
         let drawn: Vec<usize> = self.of_class("pass").collect();
-        same("passes", drawn.len(), lines.len())?;
-        for (number, &(ref jobs, layout)) in (1..).zip(&lines) {
+        same("passes", drawn.len(), passes.len())?;
+        for (number, &(ref jobs, layout)) in (1..).zip(passes) {
             let named = |at: &&usize| self.number(**at, "data-pass") == Some(number);
             let at = *drawn
                 .iter()
@@ -208,24 +229,23 @@ impl Drawing {
         Ok(())
     }
 
-    fn holds_layouts(&self, table: &Table) -> Outcome {
+    /// Each layout and each place once, the job of each place, and the paths.
+    fn holds_tree_and_order(&self, expected: &Expected) -> Outcome {
+        let Expected { table, order, .. } = expected;
         let layouts = self.numbers("layout", "data-layout");
-        same("layouts", layouts, (0..table.layouts()).map(Some).collect())
-    }
-
-    fn holds_places(&self, table: &Table) -> Outcome {
-        let order = running_order(table);
+        same("layouts", layouts, (0..table.layouts()).map(Some).collect())?;
         let places = self.numbers("place", "data-place");
         same("places", places, (0..order.len()).map(Some).collect())?;
-        for (at, &job) in self.of_class("place").zip(&order) {
+        for (at, &job) in self.of_class("place").zip(order) {
             same("job of a place", self.jobs_in(at), vec![job])?;
         }
-        Ok(())
+        self.holds_paths(expected)
     }
 
     /// A bar meets the boxes of its path and no other, and no other bar; a pair is tied in the box
     /// of its layout.
-    fn holds_paths(&self, table: &Table) -> Outcome {
+    fn holds_paths(&self, expected: &Expected) -> Outcome {
+        let table = &expected.table;
         let boxes = self.extents("layout", "box")?;
         let bars = self.extents("job", "body")?;
         for (job, path) in paths(table).iter().enumerate() {
@@ -240,7 +260,7 @@ impl Drawing {
                 0,
             )?;
         }
-        self.ties_pairs(table, &boxes)
+        self.ties_pairs(expected, &boxes)
     }
 
     fn extents(&self, class: &str, shape: &str) -> Result<Vec<Extent>, String> {
@@ -249,13 +269,9 @@ impl Drawing {
             .collect()
     }
 
-    fn ties_pairs(&self, table: &Table, boxes: &[Extent]) -> Outcome {
-        let plan = plan_of(table);
-        same(
-            "ties",
-            self.of_class("print").count(),
-            usize::from(plan.totals.pairs),
-        )?;
+    fn ties_pairs(&self, expected: &Expected, boxes: &[Extent]) -> Outcome {
+        let pairs = expected.passes.iter().filter(|(jobs, _)| jobs.len() == 2);
+        same("ties", self.of_class("print").count(), pairs.count())?;
         for at in self.of_class("print") {
             let layout = self.number(at, "data-layout").ok_or("no layout")?;
             let within = |dot: &usize| {
@@ -283,10 +299,9 @@ impl Drawing {
     }
 
     /// Faint are the passes with a job at or behind the cut.
-    fn dims_behind_cut(&self, table: &Table, cut: Option<usize>) -> Outcome {
-        let order = running_order(table);
-        let cut = cut.unwrap_or(table.jobs());
-        let behind = &order[cut..];
+    fn dims_behind_cut(&self, expected: &Expected, cut: Option<usize>) -> Outcome {
+        let order = &expected.order;
+        let behind = &order[cut.unwrap_or(order.len())..];
         for at in self.of_class("pass") {
             let expected = self.jobs_in(at).iter().any(|job| behind.contains(job));
             same("faint", self.elements[at].has_class("behind"), expected)?;
@@ -328,7 +343,7 @@ fn spelled(line: &[u8]) -> String {
 }
 
 /// The passes of a plan's lines, as their jobs and their layout.
-fn passes_of_lines(lines: &[u8]) -> Vec<(Vec<usize>, Option<usize>)> {
+fn passes_of_lines(lines: &[u8]) -> Vec<(Jobs, Printed)> {
     let text = String::from_utf8_lossy(lines);
     let field = |line: &str, at: usize| usize::from_str_radix(&line[at..at + 4], 16).ok();
     text.lines()

@@ -10,12 +10,11 @@ use tests::page::{page, DOCTYPE};
 use tests::picture::answer::product_answer;
 use tests::picture::markup::element;
 use tests::picture::{Options, JOBS_DRAWN, LAYOUTS_DRAWN};
-use tests::picture_checks::same;
 use tests::reference::plan::running_order;
 use tests::reference::sweep::{turns, Event};
 use tests::reference::table::{read, table_lines};
 use tests::reference::Table;
-use tests::report::{Outcome, Report};
+use tests::report::{same, Outcome, Report};
 use tests::run_checks::damaged_table;
 use tests::well_formed::{elements, Seen};
 
@@ -130,7 +129,7 @@ const BAKEHOUSE_MARKS: [[&str; 4]; 5] = [
 fn page_of(bytes: &[u8]) -> Result<String, String> {
     let options = Options {
         name: "a table".to_string(),
-        cut: None,
+        ..Options::default()
     };
     page(bytes, &product_answer(bytes)?, &options)
 }

@@ -1,6 +1,6 @@
 //! Draws a table with its plan: `picture [--cut M] [--page] [FILE]`, the table from standard input
 //! where no file is named. The picture, or the page with the picture and the sweep turn by turn,
-//! goes to standard output.
+//! goes to standard output. `--wrong NAME` draws the plan of one of document 01's wrong planners.
 
 use std::env;
 use std::fs;
@@ -8,10 +8,10 @@ use std::io::{self, Read, Write};
 use std::path::Path;
 use std::process::ExitCode;
 use tests::page::page;
-use tests::picture::answer::product_answer;
-use tests::picture::{picture, Options};
+use tests::picture::answer::{planned_wrongly, product_answer};
+use tests::picture::{picture, planned_picture, Options};
 
-const USAGE: &str = "usage: picture [--cut M] [--page] [FILE]";
+const USAGE: &str = "usage: picture [--cut M] [--page | --wrong NAME] [FILE]";
 
 fn main() -> ExitCode {
     match request().and_then(drawn) {
@@ -29,6 +29,7 @@ struct Request {
     file: Option<String>,
     cut: Option<usize>,
     page: bool,
+    wrong: Option<String>,
 }
 
 fn request() -> Result<Request, String> {
@@ -37,6 +38,7 @@ fn request() -> Result<Request, String> {
     while let Some(argument) = arguments.next() {
         match argument.as_str() {
             "--page" => request.page = true,
+            "--wrong" => request.wrong = Some(arguments.next().ok_or(USAGE)?),
             "--cut" => request.cut = Some(number(arguments.next())?),
             _ if argument.starts_with("--") || request.file.is_some() => {
                 return Err(USAGE.to_string());
@@ -57,12 +59,15 @@ fn drawn(request: Request) -> Result<String, String> {
     let options = Options {
         name: name(request.file.as_deref()),
         cut: request.cut,
+        wrong: request.wrong,
     };
-    let answer = product_answer(&bytes)?;
-    match request.page {
-        true => page(&bytes, &answer, &options),
-        false => picture(&bytes, &answer, &options).map(|drawn| drawn.written()),
-    }
+    let drawn = match (&options.wrong, request.page) {
+        (Some(_), true) => return Err(USAGE.to_string()),
+        (Some(wrong), false) => planned_picture(&planned_wrongly(&bytes, wrong)?, &options),
+        (None, true) => return page(&bytes, &product_answer(&bytes)?, &options),
+        (None, false) => picture(&bytes, &product_answer(&bytes)?, &options),
+    };
+    drawn.map(|drawn| drawn.written())
 }
 
 fn table_bytes(file: Option<&str>) -> io::Result<Vec<u8>> {

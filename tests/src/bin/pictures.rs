@@ -8,12 +8,12 @@ use std::process::ExitCode;
 use tests::examples::marked;
 use tests::made::tables::{table, table_of_size, Size};
 use tests::made::Generator;
-use tests::picture::answer::{planned, product_answer, Answer};
-use tests::picture::{is_legible, picture, Options, JOBS_DRAWN, LAYOUTS_DRAWN};
-use tests::picture_checks::{check_picture, same};
-use tests::reference::table::table_lines;
+use tests::picture::answer::{planned, planned_wrongly, product_answer, Answer};
+use tests::picture::{is_legible, picture, planned_picture, Options, JOBS_DRAWN, LAYOUTS_DRAWN};
+use tests::picture_checks::{check_picture, check_plan, Expected};
+use tests::reference::table::{read, table_lines};
 use tests::reference::{Table, JOB_LIMIT, LAYOUT_LIMIT};
-use tests::report::{Outcome, Report};
+use tests::report::{same, Outcome, Report};
 use tests::run_checks::damaged_table;
 use tests::well_formed::{elements, ILL_FORMED, WELL_FORMED};
 use tests::wrong_planners::{wrong_planners, WrongPlanner};
@@ -39,6 +39,7 @@ fn main() -> ExitCode {
     report.listed("wrong planners", wrong_planners(), |planner| {
         not_drawn(&planner)
     });
+    report.listed("plans that break the rules", [()], |()| rule_breakers());
     report.made("legible tables", 600, |generator| {
         check_made(
             &table_of_size(legible_size(generator), generator),
@@ -61,18 +62,108 @@ fn main() -> ExitCode {
     report.finish()
 }
 
-/// A stored picture: its file, its table and a cut.
-type Stored = (&'static str, &'static str, Option<usize>);
+/// A stored picture: its file, its table in `examples`, and what is drawn of it.
+struct Stored {
+    file: &'static str,
+    table: &'static str,
+    shown: Shown,
+}
 
-const STORED: [Stored; 7] = [
-    ("bakehouse", "bakehouse", None),
-    ("bakehouse-cut-3", "bakehouse", Some(3)),
-    ("exchanged", "exchanged", None),
-    ("first-partner", "first-partner", None),
-    ("no-jobs", "no-jobs", None),
-    ("solo", "solo", None),
-    ("two-branches", "two-branches", None),
+enum Shown {
+    Product,
+    Cut(usize),
+    Wrong(Mistake),
+}
+
+/// A wrong planner, with the order and the passes that document 01 gives it on the table.
+struct Mistake {
+    planner: &'static str,
+    order: &'static [usize],
+    passes: &'static [(&'static [usize], Option<usize>)],
+}
+
+/// The table "two leaves" of document 01, by the shallowest tops: it loses a pair.
+const SHALLOWEST: Mistake = Mistake {
+    planner: "the shallowest tops first",
+    order: &[0, 1, 2, 3],
+    passes: &[(&[0, 1], Some(0)), (&[2], None), (&[3], None)],
+};
+
+/// Two jobs 0-0, by a loop that ends at count minus one: they run alone.
+const LAST_NOT_OFFERED: Mistake = Mistake {
+    planner: "the last job never offered",
+    order: &[0, 1],
+    passes: &[(&[0], None), (&[1], None)],
+};
+
+const fn stored(file: &'static str, table: &'static str, shown: Shown) -> Stored {
+    Stored { file, table, shown }
+}
+
+const STORED: [Stored; 10] = [
+    stored("examples/bakehouse", "bakehouse", Shown::Product),
+    stored("examples/bakehouse-cut-3", "bakehouse", Shown::Cut(3)),
+    stored("examples/exchanged", "exchanged", Shown::Product),
+    stored("examples/first-partner", "first-partner", Shown::Product),
+    stored("examples/no-jobs", "no-jobs", Shown::Product),
+    stored("examples/solo", "solo", Shown::Product),
+    stored("examples/two-branches", "two-branches", Shown::Product),
+    stored("examples/two-jobs", "two-jobs", Shown::Product),
+    stored(
+        "docs/pictures/shallowest-first",
+        "two-branches",
+        Shown::Wrong(SHALLOWEST),
+    ),
+    stored(
+        "docs/pictures/last-not-offered",
+        "two-jobs",
+        Shown::Wrong(LAST_NOT_OFFERED),
+    ),
 ];
+
+impl Stored {
+    fn path(&self) -> PathBuf {
+        in_repository(&format!("{}.svg", self.file))
+    }
+
+    fn table_bytes(&self) -> Result<Vec<u8>, String> {
+        let file = in_repository(&format!("examples/{}.table", self.table));
+        fs::read(file).map_err(|error| error.to_string())
+    }
+
+    /// The picture, drawn anew.
+    fn drawn(&self) -> Result<String, String> {
+        let bytes = self.table_bytes()?;
+        match &self.shown {
+            Shown::Product => Ok(draw(&bytes, self.table, None)?.picture),
+            Shown::Cut(cut) => Ok(draw(&bytes, self.table, Some(*cut))?.picture),
+            Shown::Wrong(mistake) => draw_wrong(&bytes, self.table, mistake.planner),
+        }
+    }
+
+    /// That a picture holds what it must.
+    fn check(&self, picture: &str) -> Outcome {
+        let bytes = self.table_bytes()?;
+        match &self.shown {
+            Shown::Product => check_picture(picture, &bytes, None, true),
+            Shown::Cut(cut) => check_picture(picture, &bytes, Some(*cut), true),
+            Shown::Wrong(mistake) => check_plan(picture, &mistake.expected(&bytes)?),
+        }
+    }
+}
+
+impl Mistake {
+    fn expected(&self, bytes: &[u8]) -> Result<Expected, String> {
+        let passes = self.passes.iter();
+        Ok(Expected {
+            table: read(bytes).map_err(|refusal| format!("{refusal:?}"))?,
+            order: self.order.to_vec(),
+            passes: passes
+                .map(|(jobs, layout)| (jobs.to_vec(), *layout))
+                .collect(),
+        })
+    }
+}
 
 fn in_repository(path: &str) -> PathBuf {
     PathBuf::from(env!("CARGO_MANIFEST_DIR"))
@@ -80,31 +171,19 @@ fn in_repository(path: &str) -> PathBuf {
         .join(path)
 }
 
-fn drawn_anew(&(_, table, cut): &Stored) -> Result<(Vec<u8>, String), String> {
-    let file = in_repository(&format!("examples/{table}.table"));
-    let bytes = fs::read(file).map_err(|error| error.to_string())?;
-    let drawn = draw(&bytes, table, cut)?;
-    Ok((bytes, drawn.picture))
-}
-
-fn stored_file((name, ..): &Stored) -> PathBuf {
-    in_repository(&format!("examples/{name}.svg"))
-}
-
 fn as_stored(stored: &Stored) -> Outcome {
-    let (bytes, picture) = drawn_anew(stored)?;
-    check_picture(&picture, &bytes, stored.2, true)?;
-    let found = fs::read_to_string(stored_file(stored)).map_err(|error| error.to_string())?;
+    let picture = stored.drawn()?;
+    stored.check(&picture)?;
+    let found = fs::read_to_string(stored.path()).map_err(|error| error.to_string())?;
     match found == picture {
         true => Ok(()),
-        false => Err(format!("{} is not the one stored", stored.0)),
+        false => Err(format!("{} is not the one stored", stored.file)),
     }
 }
 
 fn write_stored() -> ExitCode {
     let write = |stored: &Stored| -> Outcome {
-        let (_, picture) = drawn_anew(stored)?;
-        fs::write(stored_file(stored), picture).map_err(|error| error.to_string())
+        fs::write(stored.path(), stored.drawn()?).map_err(|error| error.to_string())
     };
     match STORED.iter().try_for_each(write) {
         Ok(()) => ExitCode::SUCCESS,
@@ -122,11 +201,25 @@ struct Drawn {
 
 fn draw(bytes: &[u8], name: &str, cut: Option<usize>) -> Result<Drawn, String> {
     let answer = product_answer(bytes)?;
-    let name = name.to_string();
+    let options = Options {
+        name: name.to_string(),
+        cut,
+        wrong: None,
+    };
     Ok(Drawn {
-        picture: picture(bytes, &answer, &Options { name, cut })?.written(),
+        picture: picture(bytes, &answer, &options)?.written(),
         legible: matches!(&answer, Answer::Planned(planned) if is_legible(planned)),
     })
+}
+
+fn draw_wrong(bytes: &[u8], name: &str, planner: &str) -> Result<String, String> {
+    let options = Options {
+        name: name.to_string(),
+        cut: None,
+        wrong: Some(planner.to_string()),
+    };
+    let planned = planned_wrongly(bytes, planner)?;
+    planned_picture(&planned, &options).map(|drawn| drawn.written())
 }
 
 fn check(bytes: &[u8], name: &str, cut: Option<usize>) -> Outcome {
@@ -167,6 +260,23 @@ fn not_drawn(planner: &WrongPlanner) -> Outcome {
         .find(|example| example.name == planner.fails);
     let table = named.ok_or("no such table")?.table;
     same(planner.name, planned(table, &call).is_err(), true)
+}
+
+/// Of the wrong planners, one pairs jobs that do not share and one refuses: neither can be drawn.
+fn rule_breakers() -> Outcome {
+    let bytes = |name: &str| {
+        let named = marked().into_iter().find(|example| example.name == name);
+        named.map(|example| table_lines(&example.table).concat())
+    };
+    for (planner, table) in [
+        ("spans without depths", "no shared layout"),
+        ("refusing each table", "no jobs"),
+        ("nobody", "no jobs"),
+    ] {
+        let bytes = bytes(table).ok_or("no such table")?;
+        same(planner, planned_wrongly(&bytes, planner).is_err(), true)?;
+    }
+    Ok(())
 }
 
 fn legible_size(generator: &mut Generator) -> Size {

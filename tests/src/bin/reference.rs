@@ -21,7 +21,7 @@ use tests::reference::table::{read, table_lines};
 use tests::reference::tree::{leaves_of_each, settled, Settled};
 use tests::reference::visits::{lookup_visits, slot_leaves, visits};
 use tests::reference::{Refusal, Table, WORK_CELLS};
-use tests::report::{Outcome, Report};
+use tests::report::{same, Outcome, Report};
 use tests::run_checks;
 use tests::wrong_planners::{wrong_planners, WrongPlanner};
 
@@ -62,13 +62,6 @@ fn main() -> ExitCode {
     // The whole run that the benchmark measures against.
     run_checks::run(&mut report, &by_hand::run_into);
     report.finish()
-}
-
-fn same<T: PartialEq + std::fmt::Debug>(name: &str, found: T, expected: T) -> Outcome {
-    if found == expected {
-        return Ok(());
-    }
-    Err(format!("{name} is {found:?}, not {expected:?}"))
 }
 
 /// The reference as a planner with lent buffers.

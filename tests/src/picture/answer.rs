@@ -5,9 +5,11 @@ use super::planned::Planned;
 use crate::library;
 use crate::plan_checks::Planner;
 use crate::reference::plan::{plan_of, running_order, Plan};
+use crate::reference::rivals::{keeps_rules, pairs_of};
 use crate::reference::run;
 use crate::reference::table::read;
 use crate::reference::{Refusal, Table, JOB_LIMIT, LAYOUT_LIMIT, OUTPUT_BYTES, WORK_CELLS};
+use crate::wrong_planners::wrong_planners;
 
 pub enum Answer {
     Planned(Planned),
@@ -32,6 +34,21 @@ pub fn planned(table: Table, planner: Planner) -> Result<Planned, String> {
     let plan = plan_by(planner, &table).map_err(|refusal| format!("refused: {refusal:?}"))?;
     agree("plan", &plan, &plan_of(&table))?;
     let order = running_order(&table);
+    Ok(Planned::new(table, plan, order))
+}
+
+/// A table with the plan of one of document 01's wrong planners, in the order that it goes by. A
+/// plan that breaks the rules of a plan cannot be drawn.
+pub fn planned_wrongly(bytes: &[u8], name: &str) -> Result<Planned, String> {
+    let refused = |refusal: Refusal| format!("refused: {refusal:?}");
+    let wrong = wrong_planners()
+        .into_iter()
+        .find(|planner| planner.name == name);
+    let planner = wrong.ok_or_else(|| format!("no wrong planner is named {name:?}"))?;
+    let table = read(bytes).map_err(refused)?;
+    let plan = (planner.plan)(&table).map_err(refused)?;
+    keeps_rules(&table, &pairs_of(&plan.partners))?;
+    let order = (planner.order)(&table);
     Ok(Planned::new(table, plan, order))
 }
 

@@ -24,7 +24,7 @@ const LANE_TWO: Entry = (
     |at| chip(Role::LaneTwo, at),
     "lane 2: the later job of a pair",
 );
-const SINGLE: Entry = (|at| chip(Role::Single, at), "alone: no partner left");
+const SINGLE: Entry = (|at| chip(Role::Single, at), "alone: no partner found");
 const SOLO: Entry = (
     |at| chip(Role::Solo, at),
     "solo job: alone as the table asks",

@@ -39,6 +39,8 @@ pub struct Options {
     pub name: String,
     /// A cut of the running order.
     pub cut: Option<usize>,
+    /// The wrong planner whose plan it is.
+    pub wrong: Option<String>,
 }
 
 /// The picture of a product's answer, or why there is none.
@@ -77,7 +79,9 @@ pub fn is_legible(planned: &Planned) -> bool {
 }
 
 fn whole_picture(planned: &Planned, options: &Options) -> Element {
-    let mut sheet = Sheet::new(&title(options), vec![totals(planned)]);
+    let mut said = vec![totals(planned)];
+    said.extend(warning(options));
+    let mut sheet = Sheet::new(&title(options), said);
     let corner = sheet.corner();
     let tree = tree::draw(planned, corner);
     let order = order::draw(planned, corner, options.cut);
@@ -108,6 +112,7 @@ fn passes_alone(planned: &Planned, options: &Options) -> Element {
         totals(planned),
         format!("The passes alone: the tree is drawn for at most {JOBS_DRAWN} jobs and {LAYOUTS_DRAWN} layouts."),
     ];
+    said.extend(warning(options));
     said.extend(options.cut.map(|cut| {
         format!(
             "In front of cut {cut}: {}; passes not wholly in front are faint.",
@@ -121,8 +126,17 @@ fn passes_alone(planned: &Planned, options: &Options) -> Element {
     sheet.finish()
 }
 
+/// That nobody takes a wrong planner's plan for the product's.
+fn warning(options: &Options) -> Option<String> {
+    let wrong = options.wrong.as_ref();
+    wrong.map(|name| format!("Not the product's plan: {name}."))
+}
+
 pub fn title(options: &Options) -> String {
-    format!("Plan of {}", options.name)
+    match options.wrong {
+        Some(_) => format!("A wrong plan of {}", options.name),
+        None => format!("Plan of {}", options.name),
+    }
 }
 
 fn add_legend(sheet: &mut Sheet, planned: &Planned, with_tree: bool) {
