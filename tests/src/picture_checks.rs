@@ -2,6 +2,9 @@
 //! layout, job, place and pass once, each bar over the boxes of its path and no other, the pairs in
 //! front of the cut, or the line that a refusal names.
 
+use crate::made::tables::Size;
+use crate::made::Generator;
+use crate::picture::{JOBS_DRAWN, LAYOUTS_DRAWN};
 use crate::reference::paths::paths;
 use crate::reference::plan::{plan_of, running_order};
 use crate::reference::rivals::{pairs_before_cuts, pairs_of};
@@ -50,6 +53,14 @@ pub fn check_plan(picture: &str, expected: &Expected) -> Outcome {
     let drawing = Drawing::read(picture)?;
     drawing.holds_passes(expected)?;
     drawing.holds_tree_and_order(expected)
+}
+
+/// A size of which the tree is drawn, or one beyond.
+pub fn size_to_draw(generator: &mut Generator) -> Size {
+    Size {
+        layouts: generator.between(1, LAYOUTS_DRAWN + 1),
+        jobs: generator.between(0, JOBS_DRAWN + 1),
+    }
 }
 
 struct Drawing {

@@ -10,7 +10,7 @@ use tests::made::tables::{table, table_of_size, Size};
 use tests::made::Generator;
 use tests::picture::answer::{planned, planned_wrongly, product_answer, Answer};
 use tests::picture::{is_legible, picture, planned_picture, Options, JOBS_DRAWN, LAYOUTS_DRAWN};
-use tests::picture_checks::{check_picture, check_plan, Expected};
+use tests::picture_checks::{check_picture, check_plan, size_to_draw, Expected};
 use tests::reference::table::{read, table_lines};
 use tests::reference::{Table, JOB_LIMIT, LAYOUT_LIMIT};
 use tests::report::{same, Outcome, Report};
@@ -42,7 +42,7 @@ fn main() -> ExitCode {
     report.listed("plans that break the rules", [()], |()| rule_breakers());
     report.made("legible tables", 600, |generator| {
         check_made(
-            &table_of_size(legible_size(generator), generator),
+            &table_of_size(size_to_draw(generator), generator),
             generator,
         )
     });
@@ -277,13 +277,6 @@ fn rule_breakers() -> Outcome {
         same(planner, planned_wrongly(&bytes, planner).is_err(), true)?;
     }
     Ok(())
-}
-
-fn legible_size(generator: &mut Generator) -> Size {
-    Size {
-        layouts: generator.between(1, LAYOUTS_DRAWN + 1),
-        jobs: generator.between(0, JOBS_DRAWN + 1),
-    }
 }
 
 fn limit_size(generator: &mut Generator) -> Size {

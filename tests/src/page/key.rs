@@ -1,10 +1,11 @@
 //! What the shapes of the page mean: those of the picture, and the marks of a turn, as a list that
 //! wraps where the window ends.
 
+use crate::picture::chips::{sample, CHIP_HEIGHT};
 use crate::picture::legend;
-use crate::picture::look::{group, rectangle, sample, Area, Point, CHIP_HEIGHT};
 use crate::picture::markup::{element, Element};
 use crate::picture::planned::{Planned, Role};
+use crate::picture::shapes::{group, rectangle, Area, Point};
 use crate::picture::sheet::svg;
 
 /// The size of a drawing, and of the shape in it.

@@ -7,12 +7,14 @@ mod key;
 mod steps;
 
 use crate::picture::answer::Answer;
-use crate::picture::look::{patterns, Panel, Point, STYLE};
 use crate::picture::markup::{element, Element};
 use crate::picture::planned::Planned;
+use crate::picture::shapes::{Panel, Point};
 use crate::picture::sheet::svg;
+use crate::picture::style::{patterns, STYLE};
 use crate::picture::{
-    is_legible, order, picture, title, totals, tree, Options, JOBS_DRAWN, LAYOUTS_DRAWN,
+    is_legible, order, picture, refuse_cut_beyond, refused_title, title, totals, tree, Options,
+    JOBS_DRAWN, LAYOUTS_DRAWN,
 };
 use crate::reference::sweep::{plan_of_turns, turns};
 
@@ -29,6 +31,10 @@ pub fn page(bytes: &[u8], answer: &Answer, options: &Options) -> Result<String, 
         Answer::Planned(planned) if is_legible(planned) => stepping(planned, options)?,
         _ => still(picture(bytes, answer, options)?, answer),
     };
+    let title = match answer {
+        Answer::Planned(_) => title(options),
+        Answer::Refused(_) => refused_title(options),
+    };
     let head = element("head")
         .holding(element("meta").with("charset", "utf-8"))
         .holding(
@@ -36,7 +42,7 @@ pub fn page(bytes: &[u8], answer: &Answer, options: &Options) -> Result<String, 
                 .with("name", "viewport")
                 .with("content", "width=device-width, initial-scale=1"),
         )
-        .holding(element("title").text(title(options)))
+        .holding(element("title").text(title))
         .holding(element("style").raw(STYLE))
         .holding(element("style").raw(PAGE_STYLE));
     let html = element("html")
@@ -48,7 +54,8 @@ pub fn page(bytes: &[u8], answer: &Answer, options: &Options) -> Result<String, 
 
 /// The picture alone, of a refused table or of one that is too large to step through.
 fn still(picture: Element, answer: &Answer) -> Element {
-    let body = element("body").holding(element("figure").holding(picture));
+    let figure = element("figure").class("still").holding(picture);
+    let body = element("body").holding(figure);
     match answer {
         Answer::Refused(_) => body,
         Answer::Planned(_) => body.holding(element("p").text(format!(
@@ -58,6 +65,7 @@ fn still(picture: Element, answer: &Answer) -> Element {
 }
 
 fn stepping(planned: &Planned, options: &Options) -> Result<Element, String> {
+    refuse_cut_beyond(planned, options)?;
     let turns = turns(&planned.table);
     if plan_of_turns(&planned.table, &turns) != planned.plan {
         return Err("the turns of the sweep do not make the plan".to_string());

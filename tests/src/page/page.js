@@ -1,4 +1,3 @@
-
 "use strict";
 (function () {
   const steps = Array.from(document.querySelectorAll(".step"));

@@ -1,11 +1,10 @@
 //! What the shapes of a picture mean, in one or more lines under it. Only what the picture holds is
 //! explained.
 
-use super::look::{
-    badge, circle, group, line, rectangle, sample, text, Area, Panel, Point, CHIP_HEIGHT,
-};
+use super::chips::{badge, sample, CHIP_HEIGHT};
 use super::markup::Element;
 use super::planned::{Planned, Role};
+use super::shapes::{circle, group, line, rectangle, text, Area, Panel, Point};
 
 const LINE: i32 = 30;
 /// The width of an entry, and of its sample.
@@ -60,10 +59,7 @@ pub fn entries(planned: &Planned, with_tree: bool) -> Vec<Entry> {
 pub fn draw(entries: &[Entry], at: Point, width: i32) -> Panel {
     let columns = (width / ENTRY).max(1);
     let drawn = (0..).zip(entries).map(|(place, entry)| {
-        let left = Point {
-            x: at.x + place % columns * ENTRY,
-            y: at.y + place / columns * LINE + LINE / 2,
-        };
+        let left = at.shifted(place % columns * ENTRY, place / columns * LINE + LINE / 2);
         explained(entry, left)
     });
     Panel {
@@ -74,10 +70,7 @@ pub fn draw(entries: &[Entry], at: Point, width: i32) -> Panel {
 }
 
 fn explained((sample, words): &Entry, left: Point) -> Element {
-    let said = Point {
-        x: left.x + SAMPLE + 10,
-        y: left.y + 5,
-    };
+    let said = left.shifted(SAMPLE + 10, 5);
     group("entry")
         .holding(sample(left))
         .holding(text("said", said, words))
@@ -101,10 +94,7 @@ fn layout_sample(at: Point) -> Element {
 }
 
 fn rung_sample(at: Point) -> Element {
-    let point = |right: i32| Point {
-        x: at.x + right,
-        y: at.y,
-    };
+    let point = |right: i32| at.shifted(right, 0);
     group("sample")
         .holding(line("rung", point(8), point(SAMPLE - 6)))
         .holding(circle("dot", point(SAMPLE - 6), 5))

@@ -1,8 +1,9 @@
 //! The passes alone, in columns, where the tree and its jobs would be too many to read.
 
-use super::look::{group, job_shape, text, Area, Panel, Point, CHIP_HEIGHT};
+use super::chips::{job_shape, CHIP_HEIGHT};
 use super::markup::Element;
 use super::planned::{Pass, Planned};
+use super::shapes::{group, text, Area, Panel, Point};
 
 const ROW: i32 = 24;
 /// A column: the pass's number, two lanes and the layout.
@@ -15,10 +16,7 @@ pub fn draw(planned: &Planned, at: Point, cut: Option<usize>) -> Panel {
     let rows = rows(planned.passes.len());
     let mut drawing = group("passes");
     for (place, pass) in planned.passes.iter().enumerate() {
-        let corner = Point {
-            x: at.x + (place / rows) as i32 * COLUMN,
-            y: at.y + (place % rows) as i32 * ROW,
-        };
+        let corner = at.shifted((place / rows) as i32 * COLUMN, (place % rows) as i32 * ROW);
         let behind = cut.is_some_and(|cut| !planned.is_in_front(pass, cut));
         let mark = if behind { "pass behind" } else { "pass" };
         drawing.push(row(planned, pass, corner, mark));
@@ -37,10 +35,7 @@ fn rows(passes: usize) -> usize {
 }
 
 fn row(planned: &Planned, pass: &Pass, corner: Point, mark: &str) -> Element {
-    let at = |right: i32| Point {
-        x: corner.x + right,
-        y: corner.y + 14,
-    };
+    let at = |right: i32| corner.shifted(right, 14);
     let lane = |job: usize, right: i32| {
         let area = Area {
             x: corner.x + right,

@@ -97,7 +97,7 @@ impl Element {
         for child in &self.children {
             match child {
                 Child::Text(text) => out.push_str(&escaped(text)),
-                Child::Raw(text) => out.push_str(text),
+                Child::Raw(text) => out.extend(["\n", text]),
                 Child::Element(element) => out.push_str(element.written().trim_end()),
             }
         }

@@ -3,22 +3,24 @@
 //! drawn.
 
 pub mod answer;
+pub mod chips;
 pub mod legend;
-pub mod look;
 mod many;
 pub mod markup;
 pub mod order;
 pub mod planned;
 mod refused;
+pub mod shapes;
 pub mod sheet;
+pub mod style;
 mod tracks;
 pub mod tree;
 
 use crate::reference::Refusal;
 use answer::Answer;
-use look::Panel;
 use markup::Element;
 use planned::Planned;
+use shapes::Panel;
 use sheet::Sheet;
 
 /// The most jobs and the most layouts of which the tree is drawn: beyond, the numbers would be too
@@ -57,7 +59,7 @@ fn refused_picture(bytes: &[u8], refusal: Refusal, options: &Options) -> Element
         format!("Line {place}: {}.", refused::words(refusal)),
         format!("The product prints 1E{number:02X}{place:04X}."),
     ];
-    let mut sheet = Sheet::new(&format!("Refused: {}", options.name), said);
+    let mut sheet = Sheet::new(&refused_title(options), said);
     let panel = refused::draw(bytes, refusal, sheet.corner());
     sheet.add(vec![panel], 0);
     sheet.finish()
@@ -65,11 +67,19 @@ fn refused_picture(bytes: &[u8], refusal: Refusal, options: &Options) -> Element
 
 /// The picture of a planned table.
 pub fn planned_picture(planned: &Planned, options: &Options) -> Result<Element, String> {
+    refuse_cut_beyond(planned, options)?;
+    match is_legible(planned) {
+        true => Ok(whole_picture(planned, options)),
+        false => Ok(passes_alone(planned, options)),
+    }
+}
+
+/// A cut stands before the first job, between two, or after the last.
+pub fn refuse_cut_beyond(planned: &Planned, options: &Options) -> Result<(), String> {
     let jobs = planned.order.len();
     match options.cut {
         Some(cut) if cut > jobs => Err(format!("a cut of {jobs} jobs is at most {jobs}")),
-        _ if is_legible(planned) => Ok(whole_picture(planned, options)),
-        _ => Ok(passes_alone(planned, options)),
+        _ => Ok(()),
     }
 }
 
@@ -90,10 +100,7 @@ fn whole_picture(planned: &Planned, options: &Options) -> Element {
         let below = order::draw(planned, sheet.corner(), options.cut);
         sheet.add(vec![below], 0);
     } else {
-        let beside = look::Point {
-            x: corner.x + tree.width + GAP,
-            y: corner.y,
-        };
+        let beside = corner.shifted(tree.width + GAP, 0);
         sheet.add(vec![tree, order::draw(planned, beside, options.cut)], GAP);
     }
     add_legend(&mut sheet, planned, true);
@@ -130,6 +137,10 @@ fn passes_alone(planned: &Planned, options: &Options) -> Element {
 fn warning(options: &Options) -> Option<String> {
     let wrong = options.wrong.as_ref();
     wrong.map(|name| format!("Not the product's plan: {name}."))
+}
+
+pub fn refused_title(options: &Options) -> String {
+    format!("Refused: {}", options.name)
 }
 
 pub fn title(options: &Options) -> String {

@@ -1,11 +1,10 @@
 //! The running order as a numbered column, and beside it the passes: a pair at the row of its
 //! earlier job, with an arc from the later one; jobs that run alone apart, at the right.
 
-use super::look::{
-    badge, group, job_shape, line, rectangle, text, Area, Panel, Point, BADGE, CHIP_HEIGHT,
-};
+use super::chips::{badge, job_shape, BADGE, CHIP_HEIGHT};
 use super::markup::{element, Element};
 use super::planned::{Pass, Planned};
+use super::shapes::{group, line, rectangle, text, Area, Panel, Point};
 use super::tracks::{count, tracks};
 
 const HEADING: i32 = 26;

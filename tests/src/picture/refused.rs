@@ -1,7 +1,7 @@
 //! A refused table: what is wrong, and the line that the refusal names among those beside it.
 
-use super::look::{group, rectangle, text, Area, Panel, Point};
 use super::markup::{element, Element};
+use super::shapes::{group, rectangle, text, Area, Panel, Point};
 use crate::reference::Refusal;
 
 const ROW: i32 = 26;
@@ -32,10 +32,7 @@ pub fn draw(bytes: &[u8], refusal: Refusal, at: Point) -> Panel {
     let first = named.saturating_sub(BESIDE).max(1);
     let last = (named + BESIDE).min(lines.len().max(named));
     let shown = (first..=last).enumerate().map(|(row, number)| {
-        let corner = Point {
-            x: at.x,
-            y: at.y + row as i32 * ROW,
-        };
+        let corner = at.shifted(0, row as i32 * ROW);
         table_line(
             number,
             lines.get(number - 1).copied(),
@@ -52,10 +49,7 @@ pub fn draw(bytes: &[u8], refusal: Refusal, at: Point) -> Panel {
 
 /// A line with its number; the one that the refusal names stands in a frame.
 fn table_line(number: usize, bytes: Option<&[u8]>, named: bool, corner: Point) -> Element {
-    let at = |right: i32| Point {
-        x: corner.x + right,
-        y: corner.y + 18,
-    };
+    let at = |right: i32| corner.shifted(right, 18);
     let mark = if named { "line named" } else { "line" };
     let mut drawn = group(mark).with("data-line", number);
     if named {

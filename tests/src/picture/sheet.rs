@@ -1,7 +1,8 @@
 //! The sheet that a picture stands on: its margins, its title and what is said under it.
 
-use super::look::{patterns, rectangle, text, text_width, Area, Panel, Point, STYLE};
 use super::markup::{element, Element};
+use super::shapes::{rectangle, text, text_width, Area, Panel, Point};
+use super::style::{patterns, STYLE};
 
 pub const MARGIN: i32 = 32;
 /// The title's height, and that of a line said under it.

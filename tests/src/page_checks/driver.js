@@ -1,4 +1,3 @@
-
 "use strict";
 // Drives the pages in the frames of this document, and writes down what each shows after each action.
 window.addEventListener("load", function () {
