@@ -22,8 +22,19 @@ pub fn page_of(bytes: &[u8]) -> Result<String, String> {
     page(bytes, &product_answer(bytes)?, &options)
 }
 
+/// The elements of a page that is well formed and needs no other file.
 pub fn read_page(page: &str) -> Result<Vec<Seen>, String> {
-    elements(page.strip_prefix(DOCTYPE).ok_or("no doctype")?)
+    let elements = elements(page.strip_prefix(DOCTYPE).ok_or("no doctype")?)?;
+    let is_reference = |element: &Seen| {
+        let names = ["src", "href", "srcset", "data", "action"];
+        let in_style = element.name == "style" && element.text.contains("@import");
+        in_style || names.iter().any(|name| element.attribute(name).is_some())
+    };
+    let outside = page.replace("url(#", "").contains("url(");
+    match outside || elements.iter().any(is_reference) {
+        true => Err("the page names another file".to_string()),
+        false => Ok(elements),
+    }
 }
 
 /// The text of each turn, with one blank wherever there are some.
