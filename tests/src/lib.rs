@@ -1,14 +1,20 @@
 //! What the test programs share: a second implementation of document 01, tables made from seeds,
 //! document 01's own tables, buffers with guard cells, the proved operations through their static
-//! library, and a whole run by hand to measure theirs against.
+//! library, a whole run by hand to measure theirs against, and pictures and pages of tables.
 
+pub mod browser;
 pub mod by_hand;
 pub mod examples;
 pub mod lent;
 pub mod library;
 pub mod made;
+pub mod page;
+pub mod page_checks;
+pub mod picture;
+pub mod picture_checks;
 pub mod plan_checks;
 pub mod reference;
 pub mod report;
 pub mod run_checks;
+pub mod well_formed;
 pub mod wrong_planners;

@@ -8,12 +8,21 @@
 use crate::made::Generator;
 use crate::reference::Refusal;
 use std::env;
+use std::fmt::Debug;
 use std::panic::{catch_unwind, AssertUnwindSafe};
 use std::process::ExitCode;
 use std::time::Instant;
 
 /// Nothing, or what differs.
 pub type Outcome = Result<(), String>;
+
+/// That what was found is what is expected.
+pub fn same<T: PartialEq + Debug>(name: &str, found: T, expected: T) -> Outcome {
+    if found == expected {
+        return Ok(());
+    }
+    Err(format!("{name} is {found:?}, not {expected:?}"))
+}
 
 /// How often each answer came, by the number of the refusal; 0 for none.
 #[derive(Default)]
@@ -96,6 +105,14 @@ impl Report {
             count += 1;
         }
         self.pass(group, count, start);
+    }
+
+    /// That what was found is what is expected.
+    pub fn same<T: PartialEq + Debug>(name: &str, found: T, expected: T) -> Outcome {
+        if found == expected {
+            return Ok(());
+        }
+        Err(format!("{name} is {found:?}, not {expected:?}"))
     }
 
     /// How often each answer came, and that each of the numbers named came at least `least` times;

@@ -74,7 +74,8 @@ fn room(generator: &mut Generator) -> usize {
     OUTPUT_BYTES + generator.choice(&[0, 0, 1, 7, 40_000])
 }
 
-fn damaged_table(generator: &mut Generator) -> Vec<u8> {
+/// Bytes that are nearly a table.
+pub fn damaged_table(generator: &mut Generator) -> Vec<u8> {
     if generator.one_in(3) {
         return nearly_right_lines(generator);
     }

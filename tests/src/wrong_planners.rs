@@ -12,6 +12,8 @@ pub struct WrongPlanner {
     /// The name of the example that it fails.
     pub fails: &'static str,
     pub plan: fn(&Table) -> Result<Plan, Refusal>,
+    /// The order that it goes by.
+    pub order: fn(&Table) -> Vec<usize>,
     /// Whether it writes its results.
     pub writes: bool,
 }
@@ -44,20 +46,24 @@ fn wrong(
         name,
         fails,
         plan,
+        order: running_order,
         writes: true,
     }
 }
 
 pub fn wrong_planners() -> Vec<WrongPlanner> {
     vec![
-        wrong(
-            "the shallowest tops first",
-            "two leaves",
-            shallowest_tops_first,
-        ),
+        WrongPlanner {
+            order: shallowest_first,
+            ..wrong(
+                "the shallowest tops first",
+                "two leaves",
+                shallowest_tops_first,
+            )
+        },
         wrong("a later partner", "a chain of two", last_partner),
         wrong("spans without depths", "no shared layout", spans_alone),
-        wrong("count minus one", "two jobs", without_last),
+        wrong("the last job never offered", "two jobs", without_last),
         wrong("the opening job alone", "two leaves", opening_pair),
         wrong("all single", "two jobs", all_single),
         wrong("an invented count", "one job", invented_count),
@@ -103,9 +109,14 @@ fn greedy_by(table: &Table, order: &[usize], choose: fn(&[usize]) -> Option<&usi
     greedy(table, order, &shares, choose)
 }
 
-fn shallowest_tops_first(table: &Table) -> Result<Plan, Refusal> {
+fn shallowest_first(table: &Table) -> Vec<usize> {
     let mut order: Vec<usize> = (0..table.jobs()).collect();
     order.sort_by_key(|&job| depth(&table.parents, table.tops[job]));
+    order
+}
+
+fn shallowest_tops_first(table: &Table) -> Result<Plan, Refusal> {
+    let order = shallowest_first(table);
     Ok(greedy_by(table, &order, |candidates| candidates.first()))
 }
 
@@ -127,6 +138,7 @@ fn spans_alone(table: &Table) -> Result<Plan, Refusal> {
     }))
 }
 
+/// The loop that ends at count minus one.
 fn without_last(table: &Table) -> Result<Plan, Refusal> {
     let order = running_order(table);
     let kept = order.len().saturating_sub(1);

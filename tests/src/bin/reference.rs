@@ -16,11 +16,12 @@ use tests::reference::plan::{plan, plan_of, running_order, Room, Totals};
 use tests::reference::rivals::{keeps_rules, most_before_cuts, pairs_before_cuts, pairs_of};
 use tests::reference::run::run;
 use tests::reference::stretch::shared_stretch;
+use tests::reference::sweep::{plan_of_turns, turns, Event, Turn, Verdict};
 use tests::reference::table::{read, table_lines};
 use tests::reference::tree::{leaves_of_each, settled, Settled};
 use tests::reference::visits::{lookup_visits, slot_leaves, visits};
 use tests::reference::{Refusal, Table, WORK_CELLS};
-use tests::report::{Outcome, Report};
+use tests::report::{same, Outcome, Report};
 use tests::run_checks;
 use tests::wrong_planners::{wrong_planners, WrongPlanner};
 
@@ -48,6 +49,9 @@ fn main() -> ExitCode {
     report.made("sharing by spans and depths", 3_000, |generator| {
         sharing_by_spans(&table_of_size(medium_size(generator), generator))
     });
+    report.made("the sweep turn by turn", 3_000, |generator| {
+        sweep_by_turns(&table_of_size(medium_size(generator), generator))
+    });
     report.made("read after writing", 3_000, |generator| {
         let table = table(generator);
         same("table", read(&table_lines(&table).concat()), Ok(table))
@@ -58,13 +62,6 @@ fn main() -> ExitCode {
     // The whole run that the benchmark measures against.
     run_checks::run(&mut report, &by_hand::run_into);
     report.finish()
-}
-
-fn same<T: PartialEq + std::fmt::Debug>(name: &str, found: T, expected: T) -> Outcome {
-    if found == expected {
-        return Ok(());
-    }
-    Err(format!("{name} is {found:?}, not {expected:?}"))
 }
 
 /// The reference as a planner with lent buffers.
@@ -213,6 +210,46 @@ fn fits(table: &Table, tree: &Settled, i: usize, j: usize) -> bool {
         && leaf <= tree.lasts[top_i]
         && tree.depths[top_j] <= tree.depths[top_i]
         && tree.depths[top_i] <= tree.depths[bottom_j]
+}
+
+/// The turns make the plan, each finds the first free later job that shares, and of the others it
+/// says that they would do exactly if they are free, later and share.
+fn sweep_by_turns(table: &Table) -> Outcome {
+    let turns = turns(table);
+    let plan = plan_of(table);
+    same("plan", plan_of_turns(table, &turns), plan.clone())?;
+    let in_front: Vec<usize> = turns.iter().map(|turn| turn.in_front).collect();
+    let before_cuts = pairs_before_cuts(table, &pairs_of(&plan.partners));
+    same("pairs in front", in_front.as_slice(), &before_cuts[1..])?;
+    let paths = paths(table);
+    let shares = |job: usize, other: usize| paths[job].shares_with(&paths[other]);
+    turns
+        .iter()
+        .try_for_each(|turn| judges(table, turn, &turns, &shares))
+}
+
+fn judges(
+    table: &Table,
+    turn: &Turn,
+    turns: &[Turn],
+    shares: &dyn Fn(usize, usize) -> bool,
+) -> Outcome {
+    let Event::Lookup(lookup) = &turn.event else {
+        return Ok(());
+    };
+    let later = |job: usize| turns[turn.place + 1..].iter().any(|turn| turn.job == job);
+    let taken = |job: usize| turns[..turn.place].iter().any(|turn| takes(turn, job));
+    same("others", lookup.others.len(), table.jobs() - 1)?;
+    for &(other, verdict) in &lookup.others {
+        let free = later(other) && !taken(other) && !table.solo(other);
+        let does = matches!(verdict, Verdict::Found | Verdict::Later(_));
+        same("does", does, free && shares(turn.job, other))?;
+    }
+    Ok(())
+}
+
+fn takes(turn: &Turn, job: usize) -> bool {
+    matches!(&turn.event, Event::Lookup(lookup) if lookup.found.is_some_and(|(other, _)| other == job))
 }
 
 /// That the checks find a wrong planner out, on the table that document 01 has for it.

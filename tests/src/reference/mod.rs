@@ -1,11 +1,14 @@
 //! A second implementation of the planner, written from document 01's definitions and compared with
-//! the proved one. It is slow on purpose: nothing here uses a sweep, a segment tree, or Theorem 6.
+//! the proved one. It is slow on purpose: nothing that it plans with uses a sweep, a segment tree,
+//! or Theorem 6. The module `sweep` tells the sweep's turns, and its plan is compared with the
+//! other.
 
 pub mod paths;
 pub mod plan;
 pub mod rivals;
 pub mod run;
 pub mod stretch;
+pub mod sweep;
 pub mod table;
 pub mod tree;
 pub mod visits;

@@ -1,0 +1,41 @@
+//! Pages of tables: well formed, with each turn of the sweep in words, and driven in a browser where
+//! one is installed, by keys, buttons and finger, in a narrow and a wide window, and printed.
+
+use std::process::ExitCode;
+use tests::browser::Browser;
+use tests::examples::BAKEHOUSE_BYTES;
+use tests::made::tables::{table, table_of_size};
+use tests::page_checks::bakehouse::TURNS;
+use tests::page_checks::driving::{drive, print};
+use tests::page_checks::{holds_turns, page_of, read_page, words_of_turns};
+use tests::picture_checks::size_to_draw;
+use tests::report::{same, Report};
+use tests::run_checks::damaged_table;
+
+fn main() -> ExitCode {
+    let mut report = Report::new("page");
+    report.listed("the bakehouse turns", [()], |()| {
+        let words = words_of_turns(&page_of(BAKEHOUSE_BYTES)?)?;
+        same("turns", words, TURNS.map(|turn| turn.join(" ")).to_vec())
+    });
+    report.made("legible tables", 300, |generator| {
+        let table = table_of_size(size_to_draw(generator), generator);
+        holds_turns(&table)
+    });
+    report.made("made tables", 200, |generator| {
+        holds_turns(&table(generator))
+    });
+    report.made("damaged tables", 200, |generator| {
+        read_page(&page_of(&damaged_table(generator))?).map(|_| ())
+    });
+    match Browser::find() {
+        Some(browser) => in_browser(&mut report, &browser),
+        None => println!("page: no browser is installed"),
+    }
+    report.finish()
+}
+
+fn in_browser(report: &mut Report, browser: &Browser) {
+    report.listed("in a browser", [()], |()| drive(browser));
+    report.listed("printed", [()], |()| print(browser));
+}

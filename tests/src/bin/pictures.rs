@@ -1,0 +1,309 @@
+//! Pictures of tables: the stored ones to the byte, and that each holds what it must, counted
+//! against the second implementation. With `--write` the stored pictures are written anew.
+
+use std::env;
+use std::fs;
+use std::path::PathBuf;
+use std::process::ExitCode;
+use tests::examples::marked;
+use tests::made::tables::{table, table_of_size, Size};
+use tests::made::Generator;
+use tests::picture::answer::{planned, planned_wrongly, product_answer, Answer};
+use tests::picture::{is_legible, picture, planned_picture, Options, JOBS_DRAWN, LAYOUTS_DRAWN};
+use tests::picture_checks::{check_picture, check_plan, size_to_draw, Expected};
+use tests::reference::table::{read, table_lines};
+use tests::reference::{Table, JOB_LIMIT, LAYOUT_LIMIT};
+use tests::report::{same, Outcome, Report};
+use tests::run_checks::damaged_table;
+use tests::well_formed::{elements, ILL_FORMED, WELL_FORMED};
+use tests::wrong_planners::{wrong_planners, WrongPlanner};
+
+fn main() -> ExitCode {
+    if env::args().any(|argument| argument == "--write") {
+        return write_stored();
+    }
+    let mut report = Report::new("pictures");
+    report.listed("ill-formed markup", ILL_FORMED, |text| {
+        same(text, elements(text).is_err(), true)
+    });
+    report.listed("well-formed markup", WELL_FORMED, |(text, held)| {
+        same(text, elements(text)?[0].text.as_str(), held)
+    });
+    report.listed("stored pictures", STORED, |stored| as_stored(&stored));
+    report.listed("document 01's tables", marked(), |example| {
+        check(&table_lines(&example.table).concat(), "", None)
+    });
+    report.listed("every cut of document 01's tables", marked(), |example| {
+        every_cut(&example.table)
+    });
+    report.listed("wrong planners", wrong_planners(), |planner| {
+        not_drawn(&planner)
+    });
+    report.listed("plans that break the rules", [()], |()| rule_breakers());
+    report.made("legible tables", 600, |generator| {
+        check_made(
+            &table_of_size(size_to_draw(generator), generator),
+            generator,
+        )
+    });
+    report.made("made tables", 400, |generator| {
+        check_made(&table(generator), generator)
+    });
+    report.made("tables at the limits", 12, |generator| {
+        check_made(&table_of_size(limit_size(generator), generator), generator)
+    });
+    report.made("damaged tables", 600, |generator| {
+        check(&damaged_table(generator), "damaged", None)
+    });
+    report.made("any bytes in a line", 600, |generator| {
+        let name = String::from_utf8_lossy(&any_bytes(generator)).into_owned();
+        check(&with_any_line(generator), &name, None)
+    });
+    report.finish()
+}
+
+/// A stored picture: its file, its table in `examples`, and what is drawn of it.
+struct Stored {
+    file: &'static str,
+    table: &'static str,
+    shown: Shown,
+}
+
+enum Shown {
+    Product,
+    Cut(usize),
+    Wrong(Mistake),
+}
+
+/// A wrong planner, with the order and the passes that document 01 gives it on the table.
+struct Mistake {
+    planner: &'static str,
+    order: &'static [usize],
+    passes: &'static [(&'static [usize], Option<usize>)],
+}
+
+/// The table "two leaves" of document 01, by the shallowest tops: it loses a pair.
+const SHALLOWEST: Mistake = Mistake {
+    planner: "the shallowest tops first",
+    order: &[0, 1, 2, 3],
+    passes: &[(&[0, 1], Some(0)), (&[2], None), (&[3], None)],
+};
+
+/// Two jobs 0-0, by a loop that ends at count minus one: they run alone.
+const LAST_NOT_OFFERED: Mistake = Mistake {
+    planner: "the last job never offered",
+    order: &[0, 1],
+    passes: &[(&[0], None), (&[1], None)],
+};
+
+const fn stored(file: &'static str, table: &'static str, shown: Shown) -> Stored {
+    Stored { file, table, shown }
+}
+
+const STORED: [Stored; 10] = [
+    stored("examples/bakehouse", "bakehouse", Shown::Product),
+    stored("examples/bakehouse-cut-3", "bakehouse", Shown::Cut(3)),
+    stored("examples/exchanged", "exchanged", Shown::Product),
+    stored("examples/first-partner", "first-partner", Shown::Product),
+    stored("examples/no-jobs", "no-jobs", Shown::Product),
+    stored("examples/solo", "solo", Shown::Product),
+    stored("examples/two-branches", "two-branches", Shown::Product),
+    stored("examples/two-jobs", "two-jobs", Shown::Product),
+    stored(
+        "docs/pictures/shallowest-first",
+        "two-branches",
+        Shown::Wrong(SHALLOWEST),
+    ),
+    stored(
+        "docs/pictures/last-not-offered",
+        "two-jobs",
+        Shown::Wrong(LAST_NOT_OFFERED),
+    ),
+];
+
+impl Stored {
+    fn path(&self) -> PathBuf {
+        in_repository(&format!("{}.svg", self.file))
+    }
+
+    fn table_bytes(&self) -> Result<Vec<u8>, String> {
+        let file = in_repository(&format!("examples/{}.table", self.table));
+        fs::read(file).map_err(|error| error.to_string())
+    }
+
+    /// The picture, drawn anew.
+    fn drawn(&self) -> Result<String, String> {
+        let bytes = self.table_bytes()?;
+        match &self.shown {
+            Shown::Product => Ok(draw(&bytes, self.table, None)?.picture),
+            Shown::Cut(cut) => Ok(draw(&bytes, self.table, Some(*cut))?.picture),
+            Shown::Wrong(mistake) => draw_wrong(&bytes, self.table, mistake.planner),
+        }
+    }
+
+    /// That a picture holds what it must.
+    fn check(&self, picture: &str) -> Outcome {
+        let bytes = self.table_bytes()?;
+        match &self.shown {
+            Shown::Product => check_picture(picture, &bytes, None, true),
+            Shown::Cut(cut) => check_picture(picture, &bytes, Some(*cut), true),
+            Shown::Wrong(mistake) => check_plan(picture, &mistake.expected(&bytes)?),
+        }
+    }
+}
+
+impl Mistake {
+    fn expected(&self, bytes: &[u8]) -> Result<Expected, String> {
+        let passes = self.passes.iter();
+        Ok(Expected {
+            table: read(bytes).map_err(|refusal| format!("{refusal:?}"))?,
+            order: self.order.to_vec(),
+            passes: passes
+                .map(|(jobs, layout)| (jobs.to_vec(), *layout))
+                .collect(),
+        })
+    }
+}
+
+fn in_repository(path: &str) -> PathBuf {
+    PathBuf::from(env!("CARGO_MANIFEST_DIR"))
+        .join("..")
+        .join(path)
+}
+
+fn as_stored(stored: &Stored) -> Outcome {
+    let picture = stored.drawn()?;
+    stored.check(&picture)?;
+    let found = fs::read_to_string(stored.path()).map_err(|error| error.to_string())?;
+    match found == picture {
+        true => Ok(()),
+        false => Err(format!("{} is not the one stored", stored.file)),
+    }
+}
+
+fn write_stored() -> ExitCode {
+    let write = |stored: &Stored| -> Outcome {
+        fs::write(stored.path(), stored.drawn()?).map_err(|error| error.to_string())
+    };
+    match STORED.iter().try_for_each(write) {
+        Ok(()) => ExitCode::SUCCESS,
+        Err(reason) => {
+            eprintln!("pictures: {reason}");
+            ExitCode::FAILURE
+        }
+    }
+}
+
+struct Drawn {
+    picture: String,
+    legible: bool,
+}
+
+fn draw(bytes: &[u8], name: &str, cut: Option<usize>) -> Result<Drawn, String> {
+    let answer = product_answer(bytes)?;
+    let options = Options {
+        name: name.to_string(),
+        cut,
+        wrong: None,
+    };
+    Ok(Drawn {
+        picture: picture(bytes, &answer, &options)?.written(),
+        legible: matches!(&answer, Answer::Planned(planned) if is_legible(planned)),
+    })
+}
+
+fn draw_wrong(bytes: &[u8], name: &str, planner: &str) -> Result<String, String> {
+    let options = Options {
+        name: name.to_string(),
+        cut: None,
+        wrong: Some(planner.to_string()),
+    };
+    let planned = planned_wrongly(bytes, planner)?;
+    planned_picture(&planned, &options).map(|drawn| drawn.written())
+}
+
+fn check(bytes: &[u8], name: &str, cut: Option<usize>) -> Outcome {
+    let drawn = draw(bytes, name, cut)?;
+    check_picture(&drawn.picture, bytes, cut, drawn.legible)
+}
+
+/// A made table, in half of the cases with a cut.
+fn check_made(table: &Table, generator: &mut Generator) -> Outcome {
+    let cut = generator.between(0, table.jobs());
+    let cut = generator.choice(&[None, Some(cut)]);
+    let drawn_whole = table.jobs() <= JOBS_DRAWN && table.layouts() <= LAYOUTS_DRAWN;
+    let bytes = table_lines(table).concat();
+    same("legible", draw(&bytes, "made", cut)?.legible, drawn_whole)?;
+    check(&bytes, "made", cut)
+}
+
+/// Each cut up to the number of jobs is drawn, and none beyond.
+fn every_cut(table: &Table) -> Outcome {
+    let bytes = table_lines(table).concat();
+    if product_answer(&bytes).is_ok_and(|answer| matches!(answer, Answer::Refused(_))) {
+        return Ok(());
+    }
+    for cut in 0..=table.jobs() {
+        check(&bytes, "cut", Some(cut))?;
+    }
+    let beyond = draw(&bytes, "cut", Some(table.jobs() + 1));
+    same("a cut beyond the jobs", beyond.is_err(), true)
+}
+
+/// A plan that the second implementation does not have is not drawn.
+fn not_drawn(planner: &WrongPlanner) -> Outcome {
+    let call = |table: &Table, partners: &mut [u16], layouts: &mut [u16], work: &mut [u16]| {
+        planner.call(table, partners, layouts, work)
+    };
+    let named = marked()
+        .into_iter()
+        .find(|example| example.name == planner.fails);
+    let table = named.ok_or("no such table")?.table;
+    same(planner.name, planned(table, &call).is_err(), true)
+}
+
+/// Of the wrong planners, one pairs jobs that do not share and one refuses: neither can be drawn.
+fn rule_breakers() -> Outcome {
+    let bytes = |name: &str| {
+        let named = marked().into_iter().find(|example| example.name == name);
+        named.map(|example| table_lines(&example.table).concat())
+    };
+    for (planner, table) in [
+        ("spans without depths", "no shared layout"),
+        ("refusing each table", "no jobs"),
+        ("nobody", "no jobs"),
+    ] {
+        let bytes = bytes(table).ok_or("no such table")?;
+        same(planner, planned_wrongly(&bytes, planner).is_err(), true)?;
+    }
+    Ok(())
+}
+
+fn limit_size(generator: &mut Generator) -> Size {
+    Size {
+        layouts: generator.choice(&[1, 2, LAYOUT_LIMIT]),
+        jobs: JOB_LIMIT,
+    }
+}
+
+/// A table with a line of any bytes in it.
+fn with_any_line(generator: &mut Generator) -> Vec<u8> {
+    let size = Size {
+        layouts: generator.between(1, 4),
+        jobs: generator.between(0, 4),
+    };
+    let mut lines = table_lines(&table_of_size(size, generator));
+    let at = generator.between(0, lines.len());
+    lines.insert(at, any_bytes(generator));
+    lines.concat()
+}
+
+/// Bytes of every kind, those that markup gives a meaning to more often.
+fn any_bytes(generator: &mut Generator) -> Vec<u8> {
+    let length = generator.between(0, 60);
+    let byte = |_| {
+        let any = generator.bits() as u8;
+        generator.choice(&[any, any, b'<', b'>', b'&', b'"', b'\'', b']', 0, b' '])
+    };
+    (0..length).map(byte).collect()
+}

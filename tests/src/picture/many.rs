@@ -1,0 +1,63 @@
+//! The passes alone, in columns, where the tree and its jobs would be too many to read.
+
+use super::chips::{job_shape, CHIP_HEIGHT};
+use super::markup::Element;
+use super::planned::{Pass, Planned};
+use super::shapes::{group, text, Area, Panel, Point};
+
+const ROW: i32 = 24;
+/// A column: the pass's number, two lanes and the layout.
+const COLUMN: i32 = 236;
+const NUMBER: i32 = 40;
+const CHIP: i32 = 44;
+
+/// The panel with its upper left corner at a point.
+pub fn draw(planned: &Planned, at: Point, cut: Option<usize>) -> Panel {
+    let rows = rows(planned.passes.len());
+    let mut drawing = group("passes");
+    for (place, pass) in planned.passes.iter().enumerate() {
+        let corner = at.shifted((place / rows) as i32 * COLUMN, (place % rows) as i32 * ROW);
+        let behind = cut.is_some_and(|cut| !planned.is_in_front(pass, cut));
+        let mark = if behind { "pass behind" } else { "pass" };
+        drawing.push(row(planned, pass, corner, mark));
+    }
+    Panel {
+        drawing,
+        width: planned.passes.len().div_ceil(rows) as i32 * COLUMN,
+        height: rows.min(planned.passes.len()) as i32 * ROW,
+    }
+}
+
+/// As many rows in a column that the sheet is about half as high again as a slide's 9 to 16.
+fn rows(passes: usize) -> usize {
+    let per_column = f64::from(COLUMN) / f64::from(ROW) * 0.6 * passes as f64;
+    (per_column.sqrt() as usize).max(1)
+}
+
+fn row(planned: &Planned, pass: &Pass, corner: Point, mark: &str) -> Element {
+    let at = |right: i32| corner.shifted(right, 14);
+    let lane = |job: usize, right: i32| {
+        let area = Area {
+            x: corner.x + right,
+            y: corner.y,
+            width: CHIP,
+            height: CHIP_HEIGHT,
+        };
+        job_shape(planned, job, area, "job")
+    };
+    let row = group(mark)
+        .with("data-pass", pass.number)
+        .holding(text("number faint right", at(NUMBER - 8), pass.number))
+        .holding(lane(pass.opener, NUMBER));
+    match pass.partner {
+        Some((other, layout)) => row
+            .with("data-layout", layout)
+            .holding(lane(other, NUMBER + CHIP + 4))
+            .holding(text(
+                "",
+                at(NUMBER + 2 * CHIP + 12),
+                format!("layout {layout}"),
+            )),
+        None => row,
+    }
+}

@@ -1,0 +1,275 @@
+//! The running order as a numbered column, and beside it the passes: a pair at the row of its
+//! earlier job, with an arc from the later one; jobs that run alone apart, at the right.
+
+use super::chips::{badge, job_shape, BADGE, CHIP_HEIGHT};
+use super::markup::{element, Element};
+use super::planned::{Pass, Planned};
+use super::shapes::{group, line, rectangle, text, Area, Panel, Point};
+use super::tracks::{count, tracks};
+
+const HEADING: i32 = 26;
+const ROW: i32 = 28;
+/// The room that a cut takes between two rows.
+const CUT: i32 = 28;
+const CHIP: i32 = 40;
+/// The columns, from the left end of the panel.
+const PLACE: i32 = 42;
+const JOB: i32 = 66;
+const PATH: i32 = 128;
+const DEPTH: i32 = 248;
+const ARCS: i32 = 280;
+/// From arc to arc, and the room that arcs take at least.
+const ARC: i32 = 10;
+const LEAST_ARCS: i32 = 50;
+/// A pass: its badge, two lanes and its layout.
+const LANES: i32 = 18;
+const PASS: i32 = LANES + 2 * CHIP + 100;
+const ALONE: i32 = 70;
+
+/// The panel with its upper left corner at a point.
+pub fn draw(planned: &Planned, at: Point, cut: Option<usize>) -> Panel {
+    let column = Column {
+        planned,
+        at,
+        cut,
+        arcs: arc_tracks(planned),
+    };
+    let (width, height) = (column.alone() + ALONE - at.x, column.end() - at.y);
+    let drawing = group("order")
+        .holding(column.headings())
+        .holding(column.leaders())
+        .holding(column.arc_lines())
+        .holding(column.places())
+        .holding(column.passes())
+        .holding_all(cut.map(|cut| column.cut_line(cut)));
+    Panel {
+        drawing,
+        width,
+        height,
+    }
+}
+
+/// The tracks of the arcs, by pass; those of passes without an arc are 0.
+fn arc_tracks(planned: &Planned) -> Vec<usize> {
+    let rows = |pass: &Pass| {
+        pass.partner
+            .map(|(other, _)| rows_of(planned, pass.opener, other))
+    };
+    let paired: Vec<usize> = (0..planned.passes.len())
+        .filter(|&at| planned.passes[at].partner.is_some())
+        .collect();
+    let intervals: Vec<(i32, i32)> = planned.passes.iter().filter_map(rows).collect();
+    let mut all = vec![0; planned.passes.len()];
+    for (at, track) in paired.into_iter().zip(tracks(&intervals)) {
+        all[at] = track;
+    }
+    all
+}
+
+fn rows_of(planned: &Planned, opener: usize, other: usize) -> (i32, i32) {
+    (planned.place(opener) as i32, planned.place(other) as i32)
+}
+
+struct Column<'a> {
+    planned: &'a Planned,
+    at: Point,
+    cut: Option<usize>,
+    arcs: Vec<usize>,
+}
+
+impl Column<'_> {
+    /// Where a row stands: the middle of its height.
+    fn row(&self, place: usize) -> i32 {
+        let after_cut = self.cut.is_some_and(|cut| cut <= place);
+        let shift = if after_cut { CUT } else { 0 };
+        self.at.y + HEADING + place as i32 * ROW + ROW / 2 + shift
+    }
+
+    fn end(&self) -> i32 {
+        let cut = if self.cut.is_some() { CUT } else { 0 };
+        self.at.y + HEADING + self.planned.order.len() as i32 * ROW + cut
+    }
+
+    fn point(&self, right: i32, y: i32) -> Point {
+        Point {
+            x: self.at.x + right,
+            y,
+        }
+    }
+
+    /// The left end of the passes.
+    fn pairs(&self) -> i32 {
+        let arcs = (count(&self.arcs) + 2) * ARC;
+        self.at.x + ARCS + arcs.max(LEAST_ARCS)
+    }
+
+    /// The left end of the jobs that run alone.
+    fn alone(&self) -> i32 {
+        self.pairs() + PASS
+    }
+
+    fn headings(&self) -> Element {
+        let y = self.at.y + 14;
+        let heading = |class: &str, right: i32, words: &str| {
+            text(&format!("heading {class}"), self.point(right, y), words)
+        };
+        group("headings")
+            .holding(heading("right", PLACE, "place"))
+            .holding(heading("middle", JOB + CHIP / 2, "job"))
+            .holding(heading("", PATH, "top–bottom"))
+            .holding(heading("middle", DEPTH, "depth"))
+            .holding(heading(
+                "",
+                self.pairs() - self.at.x - BADGE,
+                "pass: lanes, layout",
+            ))
+            .holding(heading("", self.alone() - self.at.x, "alone"))
+    }
+
+    /// Each place with its job, the ends of its path and the depth of its top, which the order goes
+    /// by.
+    fn places(&self) -> Element {
+        let rows = self.planned.order.iter().enumerate();
+        group("places").holding_all(rows.map(|(place, &job)| self.place(place, job)))
+    }
+
+    fn place(&self, place: usize, job: usize) -> Element {
+        let (row, table) = (self.row(place), &self.planned.table);
+        let path = format!("{}–{}", table.tops[job], table.bottoms[job]);
+        let said = |class: &str, right: i32, words: String| {
+            text(
+                &format!("number {class}"),
+                self.point(right, row + 5),
+                words,
+            )
+        };
+        let whole = Area {
+            x: self.at.x,
+            y: row - ROW / 2,
+            width: ARCS - 8,
+            height: ROW,
+        };
+        group("place")
+            .with("data-place", place)
+            .holding(rectangle("row", whole))
+            .holding(said("right faint", PLACE, place.to_string()))
+            .holding(job_shape(self.planned, job, self.chip(JOB, row), "placed"))
+            .holding(said("", PATH, path))
+            .holding(said(
+                "middle",
+                DEPTH,
+                self.planned.depth_of_top(job).to_string(),
+            ))
+    }
+
+    fn chip(&self, right: i32, row: i32) -> Area {
+        Area {
+            x: self.at.x + right,
+            y: row - CHIP_HEIGHT / 2,
+            width: CHIP,
+            height: CHIP_HEIGHT,
+        }
+    }
+
+    fn passes(&self) -> Element {
+        let drawn = self.planned.passes.iter().map(|pass| self.pass(pass));
+        group("passes").holding_all(drawn)
+    }
+
+    fn pass(&self, pass: &Pass) -> Element {
+        let behind = self
+            .cut
+            .is_some_and(|cut| !self.planned.is_in_front(pass, cut));
+        let mark = if behind { "pass behind" } else { "pass" };
+        let marked = group(mark).with("data-pass", pass.number);
+        match pass.partner {
+            Some((other, layout)) => self.pair(marked, pass, other, layout),
+            None => self.single(marked, pass),
+        }
+    }
+
+    /// Two lanes of the press side by side, and the layout that both print on.
+    fn pair(&self, marked: Element, pass: &Pass, other: usize, layout: u16) -> Element {
+        let row = self.row(self.planned.place(pass.opener));
+        let left = self.pairs() - self.at.x + LANES;
+        let press = Area {
+            x: self.at.x + left - 3,
+            y: row - CHIP_HEIGHT / 2 - 3,
+            width: 2 * CHIP + 10,
+            height: CHIP_HEIGHT + 6,
+        };
+        let said = self.point(left + 2 * CHIP + 14, row + 5);
+        let lane =
+            |job: usize, right: i32| job_shape(self.planned, job, self.chip(right, row), "lane");
+        marked
+            .with("data-layout", layout)
+            .holding(rectangle("press", press))
+            .holding_all(badge(pass.number, self.point(left - LANES, row)))
+            .holding(lane(pass.opener, left))
+            .holding(lane(other, left + CHIP + 4))
+            .holding(text("said", said, format!("layout {layout}")))
+    }
+
+    fn single(&self, marked: Element, pass: &Pass) -> Element {
+        let row = self.row(self.planned.place(pass.opener));
+        let left = self.alone() - self.at.x;
+        marked
+            .holding_all(badge(pass.number, self.point(left + BADGE, row)))
+            .holding(job_shape(
+                self.planned,
+                pass.opener,
+                self.chip(left + LANES + 6, row),
+                "lane",
+            ))
+    }
+
+    /// From the jobs that run alone to their passes.
+    fn leaders(&self) -> Element {
+        let alone = self
+            .planned
+            .passes
+            .iter()
+            .filter(|pass| pass.partner.is_none());
+        group("leaders").holding_all(alone.map(|pass| {
+            let row = self.row(self.planned.place(pass.opener));
+            let to = self.point(self.alone() - self.at.x - 4, row);
+            line("leader", self.point(ARCS, row), to).with("data-pass", pass.number)
+        }))
+    }
+
+    fn arc_lines(&self) -> Element {
+        let passes = self.planned.passes.iter().zip(&self.arcs);
+        group("arcs").holding_all(passes.filter_map(|(pass, &track)| {
+            let (other, _) = pass.partner?;
+            let arc = self.arc(pass.opener, other, track);
+            Some(arc.with("data-pass", pass.number))
+        }))
+    }
+
+    /// From the later job to the row of the earlier one, and on to the pass.
+    fn arc(&self, opener: usize, other: usize, track: usize) -> Element {
+        let (upper, lower) = (
+            self.row(self.planned.place(opener)),
+            self.row(self.planned.place(other)),
+        );
+        let from = self.at.x + ARCS;
+        let turn = from + (track as i32 + 1) * ARC;
+        let to = self.pairs() - BADGE;
+        let path = format!("M{from},{lower} H{turn} V{upper} M{from},{upper} H{to}");
+        element("path").class("arc").with("d", path)
+    }
+
+    fn cut_line(&self, cut: usize) -> Element {
+        let y = self.at.y + HEADING + cut as i32 * ROW + CUT / 2;
+        let pairs = self.planned.pairs_in_front(cut);
+        let noun = if pairs == 1 { "pair" } else { "pairs" };
+        let words = format!("cut {cut}: {pairs} {noun} in front");
+        let right = self.pairs() - self.at.x;
+        let end = self.point(right - BADGE, y);
+        group("cut-at")
+            .with("data-cut", cut)
+            .with("data-pairs", pairs)
+            .holding(line("cut", self.point(0, y), end))
+            .holding(text("cut-said", self.point(right, y + 5), words))
+    }
+}

@@ -1,0 +1,233 @@
+//! The sweep turn by turn (document 01, "The shelf and its cells"), by its rule and without a
+//! segment tree: whose turn it is, what the turn asks for, whom it finds, and why each of the other
+//! jobs does not do. The plan of this implementation is made without it and compared with it.
+
+use super::paths::{deepest_shared, paths};
+use super::plan::{running_order, with_totals, Plan};
+use super::tree::{settled, Settled};
+use super::visits::{lookup_visits, slot_leaves};
+use super::Table;
+
+/// One turn of the sweep.
+#[derive(Clone, Debug, PartialEq, Eq)]
+pub struct Turn {
+    pub place: usize,
+    pub job: usize,
+    /// The depth of the job's top: the sweep has reached the bottoms that are as deep or deeper.
+    pub depth: usize,
+    /// The jobs whose bottoms are reached, by number.
+    pub reached: Vec<usize>,
+    pub event: Event,
+    /// The passes that are made when the turn is over.
+    pub made: usize,
+    /// The pairs in front of the cut after this place.
+    pub in_front: usize,
+}
+
+#[derive(Clone, Debug, PartialEq, Eq)]
+pub enum Event {
+    /// A solo job runs alone.
+    Solo,
+    /// An earlier job has taken this one.
+    TakenBy(usize),
+    Lookup(Lookup),
+}
+
+#[derive(Clone, Debug, PartialEq, Eq)]
+pub struct Lookup {
+    /// First and last leaf of the job's top, and the first and last slot there.
+    pub leaves: (usize, usize),
+    pub slots: (usize, usize),
+    pub visits: u32,
+    /// The partner, and the layout that both print on.
+    pub found: Option<(usize, u16)>,
+    /// What the lookup says of each other job, by number.
+    pub others: Vec<(usize, Verdict)>,
+}
+
+/// What a lookup says of another job. The first that applies, in this order.
+#[derive(Clone, Copy, Debug, PartialEq, Eq)]
+pub enum Verdict {
+    Solo,
+    TakenBy(usize),
+    HadItsTurn,
+    /// The depth of its bottom, which the sweep has not reached.
+    NotReached(usize),
+    /// The first leaf of its bottom, which lies outside the span.
+    Outside(usize),
+    Found,
+    /// It would do as well, but stands at a later place.
+    Later(usize),
+}
+
+/// The turns of a table that is not refused, by place.
+pub fn turns(table: &Table) -> Vec<Turn> {
+    let order = running_order(table);
+    let mut sweep = Sweep {
+        table,
+        tree: settled(&table.parents),
+        taken_by: vec![None; table.jobs()],
+        partners: vec![None; table.jobs()],
+        made: 0,
+        order,
+    };
+    (0..table.jobs()).map(|place| sweep.turn(place)).collect()
+}
+
+/// The plan that the turns make.
+pub fn plan_of_turns(table: &Table, turns: &[Turn]) -> Plan {
+    let mut partners = vec![None; table.jobs()];
+    let mut visits = 0;
+    for turn in turns {
+        let Event::Lookup(lookup) = &turn.event else {
+            continue;
+        };
+        visits += lookup.visits;
+        if let Some((other, _)) = lookup.found {
+            partners[turn.job] = Some(other);
+            partners[other] = Some(turn.job);
+        }
+    }
+    with_totals(table, partners, visits)
+}
+
+struct Sweep<'a> {
+    table: &'a Table,
+    tree: Settled,
+    order: Vec<usize>,
+    /// By job: the earlier job that took it, and its partner whichever is earlier.
+    taken_by: Vec<Option<usize>>,
+    partners: Vec<Option<usize>>,
+    made: usize,
+}
+
+impl Sweep<'_> {
+    fn turn(&mut self, place: usize) -> Turn {
+        let job = self.order[place];
+        let event = self.event(place, job);
+        if !matches!(event, Event::TakenBy(_)) {
+            self.made += 1;
+        }
+        Turn {
+            place,
+            job,
+            depth: self.depth_of_top(job),
+            reached: self.reached(job),
+            event,
+            made: self.made,
+            in_front: self.pairs_in_front(place + 1),
+        }
+    }
+
+    fn event(&mut self, place: usize, job: usize) -> Event {
+        if self.table.solo(job) {
+            return Event::Solo;
+        }
+        if let Some(earlier) = self.taken_by[job] {
+            return Event::TakenBy(earlier);
+        }
+        let lookup = self.lookup(place, job);
+        if let Some((other, _)) = lookup.found {
+            self.taken_by[other] = Some(job);
+            self.partners[other] = Some(job);
+            self.partners[job] = Some(other);
+        }
+        Event::Lookup(lookup)
+    }
+
+    fn lookup(&self, place: usize, job: usize) -> Lookup {
+        let suits = |other: &usize| self.hindrance(place, *other).is_none();
+        let found = self.order[place + 1..].iter().copied().find(suits);
+        let others = (0..self.table.jobs()).filter(|&other| other != job);
+        let verdict = |other| (other, self.verdict(place, other, found));
+        Lookup {
+            leaves: self.span(job),
+            slots: self.slots(job),
+            visits: lookup_visits(self.table, &slot_leaves(self.table, &self.order), job),
+            found: found.and_then(|other| Some((other, self.printed(job, other)?))),
+            others: others.map(verdict).collect(),
+        }
+    }
+
+    fn verdict(&self, place: usize, other: usize, found: Option<usize>) -> Verdict {
+        match self.hindrance(place, other) {
+            Some(hindrance) => hindrance,
+            None if found == Some(other) => Verdict::Found,
+            None => Verdict::Later(self.place(other)),
+        }
+    }
+
+    /// Why a job does not do at a turn.
+    fn hindrance(&self, place: usize, other: usize) -> Option<Verdict> {
+        let job = self.order[place];
+        let (first, last) = self.span(job);
+        let (leaf, depth) = (self.leaf(other), self.depth_of_bottom(other));
+        if self.table.solo(other) {
+            return Some(Verdict::Solo);
+        }
+        if let Some(earlier) = self.taken_by[other] {
+            return Some(Verdict::TakenBy(earlier));
+        }
+        if self.place(other) <= place {
+            return Some(Verdict::HadItsTurn);
+        }
+        if depth < self.depth_of_top(job) {
+            return Some(Verdict::NotReached(depth));
+        }
+        (leaf < first || last < leaf).then_some(Verdict::Outside(leaf))
+    }
+
+    fn printed(&self, job: usize, other: usize) -> Option<u16> {
+        deepest_shared(self.table, job, &paths(self.table)[other])
+    }
+
+    fn reached(&self, job: usize) -> Vec<usize> {
+        let depth = self.depth_of_top(job);
+        let is_reached = |other: &usize| depth <= self.depth_of_bottom(*other);
+        (0..self.table.jobs()).filter(is_reached).collect()
+    }
+
+    /// Pairs with both places below a cut.
+    fn pairs_in_front(&self, cut: usize) -> usize {
+        let front = &self.order[..cut];
+        let paired =
+            |job: &&usize| self.partners[**job].is_some_and(|other| front.contains(&other));
+        front.iter().filter(paired).count() / 2
+    }
+
+    /// First and last leaf of a job's top.
+    fn span(&self, job: usize) -> (usize, usize) {
+        let top = usize::from(self.table.tops[job]);
+        let leaf = |leaves: &[u16]| usize::from(leaves[top]);
+        (leaf(&self.tree.firsts), leaf(&self.tree.lasts))
+    }
+
+    /// First and last slot whose leaf lies in the span, the job's own among them. Slots go by leaf,
+    /// so those before the span are as many as the jobs with smaller leaves.
+    fn slots(&self, job: usize) -> (usize, usize) {
+        let (first, last) = self.span(job);
+        let jobs_where = |test: &dyn Fn(usize) -> bool| {
+            let jobs = 0..self.table.jobs();
+            jobs.filter(|&other| test(self.leaf(other))).count()
+        };
+        let before = jobs_where(&|leaf| leaf < first);
+        (before, jobs_where(&|leaf| leaf <= last) - 1)
+    }
+
+    fn leaf(&self, job: usize) -> usize {
+        usize::from(self.tree.firsts[usize::from(self.table.bottoms[job])])
+    }
+
+    fn depth_of_top(&self, job: usize) -> usize {
+        usize::from(self.tree.depths[usize::from(self.table.tops[job])])
+    }
+
+    fn depth_of_bottom(&self, job: usize) -> usize {
+        usize::from(self.tree.depths[usize::from(self.table.bottoms[job])])
+    }
+
+    fn place(&self, job: usize) -> usize {
+        let place = self.order.iter().position(|&other| other == job);
+        place.expect("every job has its place")
+    }
+}
