@@ -25,7 +25,7 @@ pub const FEW_CELLS: usize = 8 * FEW;
 fn smaller(x: LayoutNumber, y: LayoutNumber) -> LayoutNumber
     ensures { λ r. ⌜ r .0 ≡ min (x .0) (y .0) ⌝ }
 {
-    if x.0 < y.0 {
+    if x.comes_before(y) {
         return x;
     }
     y

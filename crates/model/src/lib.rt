@@ -1,5 +1,6 @@
 // The numbers and answers that every part of the planner speaks in, and, in specs/, what document 01 says of them.
 ghost use mathlib.Core.Path.{_≡_};
+ghost use Prim.Native.Nat.{_+_, _<_};
 ghost use lib.Dec.{eqb, ltb};
 ghost use Rattle.model.specs.Tree.{FFFF};
 
@@ -61,11 +62,33 @@ impl Rank {
         self.0 == ABSENT
     }
 
+    // Whether it is the same place as another.
+    pub fn equals(self, other: Rank) -> bool
+        ensures { λ r. ⌜ r ≡ eqb (self .0) (other .0) ⌝ }
+    {
+        self.0 == other.0
+    }
+
     // Whether it comes before another in the running order; none comes after every place.
     pub fn comes_before(self, other: Rank) -> bool
         ensures { λ r. ⌜ r ≡ ltb (self .0) (other .0) ⌝ }
     {
         self.0 < other.0
+    }
+
+    // Whether it is one of so many places, counted from 0.
+    pub fn is_among(self, places: usize) -> bool
+        ensures { λ r. ⌜ r ≡ ltb (self .0) places ⌝ }
+    {
+        (self.0 as usize) < places
+    }
+
+    // The place after it.
+    pub fn next(self) -> Rank
+        requires { ⌜ self .0 < FFFF ⌝ }
+        ensures { λ r. ⌜ r .0 ≡ self .0 + 1 ⌝ }
+    {
+        Rank(self.0 + 1)
     }
 }
 

@@ -81,9 +81,9 @@ fn slot_after(work: &[u16], count: usize, place: Rank) -> usize
     requires { ⌜ count ≤ jobLimit ⌝ }
     requires { ⌜ treePart * count ≤ length (now work) ⌝ }
 {
-    let next = place.0 as usize + 1;
-    if next < count {
-        return schedule::slot_at(work, count, Rank(next as u16));
+    let next = place.next();
+    if next.is_among(count) {
+        return schedule::slot_at(work, count, next);
     }
     count
 }
@@ -94,7 +94,7 @@ fn find_mate(work: &[u16], count: usize, shape: Shape, place: Rank, from: usize,
     ensures { λ r. ⌜ Minimum (shape .levels) (shape .width) (treeIn count (now (work .entry))) from to (r .place .0) (r .visits) ⌝ }
 {
     let slot = slot_after(work, count, place);
-    let next = Rank(place.0 + 1);
+    let next = place.next();
     let start = TREE * count;
     segment_tree::lookup(&work[start..], shape, from, to, slot, next)
 }

@@ -232,7 +232,7 @@ pub fn lookup(
     }
     let visits = count_visits(shape, from, to);
     if from <= slot && slot < to {
-        if nodes[shape.width + slot] == first.0 {
+        if first.equals(Rank(nodes[shape.width + slot])) {
             return Found {
                 place: first,
                 visits,

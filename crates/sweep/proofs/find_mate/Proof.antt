@@ -8,8 +8,8 @@ use Rattle.sweep.proofs.find_mate.Tie as tie
 slot-after-requires : tie.Need-slot-after-requires
 slot-after-requires c κs = (c .before .pre .inside, (c .before .pre .few, c .before .pre .room))
 
-add-t10 : tie.Need-add-t10
-add-t10 c = omega (arith, c .before .before .before .pre .inside, c .before .before .before .pre .few)
+next-requires : tie.Need-next-requires
+next-requires c κs = omega (arith, c .before .before .pre .inside, c .before .before .pre .few)
 
 mul-start : tie.Need-mul-start
 mul-start c = omega (arith, c .before .before .before .pre .few)
@@ -27,7 +27,7 @@ part-lookup-end : tie.Need-part-lookup-end
 part-lookup-end c = search needs
 
 lookup-requires : tie.Need-lookup-requires
-lookup-requires c κs = rw (mid-tail _ _) (c .before .before .before .before .pre .search)
+lookup-requires c κs = rw (mid-tail _ _, c .before .next .ensures) (c .before .before .before .before .pre .search)
 
 returns : tie.Need-returns
 returns c = rw (mid-tail _ _) at (c .lookup .ensures)
@@ -37,7 +37,7 @@ find-mate-spec =
     tie.close
     (tie.spec
     slot-after-requires
-    add-t10
+    next-requires
     mul-start
     mul-lookup
     sub-lookup

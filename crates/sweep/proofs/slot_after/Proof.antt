@@ -1,20 +1,19 @@
--- The place after this one is still one of the table's.
-use borrow.Author.Needs.{needs}
+-- The place after this one has a slot if it is one of the table's.
+use mathlib.Core.Path.{sym, _∙_}
 use native.Mathlib.Omega.{arith}
+use borrow.Author.Needs.{needs}
+use borrow.Author.Tests.{ltb-true}
 use Rattle.sweep.proofs.slot_after.Statement.{statement}
 use Rattle.sweep.proofs.slot_after.Tie as tie
 
-cast-next : tie.Need-cast-next
-cast-next c = search needs
+next-requires : tie.Need-next-requires
+next-requires c κs = omega (arith, c .before .pre .0, c .before .pre .1 .0)
 
-add-next : tie.Need-add-next
-add-next c = omega (arith, c .before .before .pre .0, c .before .before .pre .1 .0)
-
-cast-t7 : tie.Need-cast-t7
-cast-t7 c = omega (arith, c .before .before .before .pre .0, c .before .before .before .pre .1 .0)
+is-among-requires : tie.Need-is-among-requires
+is-among-requires c κs = search needs
 
 slot-at-requires : tie.Need-slot-at-requires
-slot-at-requires c κs = omega (arith, c .if1 .taken, c .before .before .before .pre .1 .1)
+slot-at-requires c κs = omega (arith, ltb-true (c .before .before .next .result .0) (c .before .before .before .before .args .count) (sym (c .before .is-among .ensures) ∙ c .if1 .taken), c .before .before .before .before .pre .1 .1)
 
 returns : tie.Need-returns
 returns c = search needs
@@ -24,4 +23,4 @@ returns-2 c = search needs
 
 pub slot-after-spec : {M : Type 1} → statement M
 slot-after-spec =
-    tie.close (tie.spec cast-next add-next cast-t7 slot-at-requires returns returns-2)
+    tie.close (tie.spec next-requires is-among-requires slot-at-requires returns returns-2)

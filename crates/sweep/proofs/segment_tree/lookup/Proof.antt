@@ -1,7 +1,8 @@
 -- An empty span holds nothing; where the smallest place that there can be stands in the span it is the smallest; else the span is searched.
-use mathlib.Core.Path.{sym}
+use mathlib.Core.Path.{sym, _∙_}
 use native.Mathlib.Omega.{arith}
-use borrow.Author.Tests.{ltb-true}
+use borrow.Author.Needs.{needs}
+use borrow.Author.Tests.{ltb-true, eqb-true}
 use Rattle.sweep_laws.specs.EntryLaws.{smallest-empty, smallest-first}
 use Rattle.sweep_laws.specs.VisitBound.{visits-empty}
 use Rattle.sweep.proofs.segment_tree.lookup.Statement.{statement}
@@ -17,19 +18,23 @@ returns c =
 count-visits-requires : tie.Need-count-visits-requires
 count-visits-requires c κs = record { power = c .before .before .pre .power; some = omega (arith, c .if1 .left); inside = c .before .before .pre .inside; fits = omega (arith, c .before .before .pre .tree .room, c .before .before .good .0 .0) }
 
-add-if4 : tie.Need-add-if4
-add-if4 c = omega (arith, ltb-true (c .before .before .before .before .before .before .args .slot) (c .before .before .before .before .before .before .args .to) (c .before .if3 .taken), c .before .before .before .before .before .before .pre .inside, c .before .before .before .before .before .before .pre .tree .room, c .before .before .before .before .before .before .good .0 .0)
+add-t13 : tie.Need-add-t13
+add-t13 c = omega (arith, ltb-true (c .before .before .before .before .before .before .args .slot) (c .before .before .before .before .before .before .args .to) (c .before .if3 .taken), c .before .before .before .before .before .before .pre .inside, c .before .before .before .before .before .before .pre .tree .room, c .before .before .before .before .before .before .good .0 .0)
 
-mul-if4 : tie.Need-mul-if4
-mul-if4 c = omega (arith, ltb-true (c .before .before .before .before .before .before .args .slot) (c .before .before .before .before .before .before .args .to) (c .before .if3 .taken), c .before .before .before .before .before .before .pre .inside, c .before .before .before .before .before .before .pre .tree .room, c .before .before .before .before .before .before .good .0 .0)
+mul-t14 : tie.Need-mul-t14
+mul-t14 c = omega (arith, ltb-true (c .before .before .before .before .before .before .args .slot) (c .before .before .before .before .before .before .args .to) (c .before .if3 .taken), c .before .before .before .before .before .before .pre .inside, c .before .before .before .before .before .before .pre .tree .room, c .before .before .before .before .before .before .good .0 .0)
 
-shared-slice-read-if4 : tie.Need-shared-slice-read-if4
-shared-slice-read-if4 c = omega (arith, ltb-true (c .before .before .before .before .before .before .before .args .slot) (c .before .before .before .before .before .before .before .args .to) (c .before .before .if3 .taken), c .before .before .before .before .before .before .before .pre .inside, c .before .before .before .before .before .before .before .pre .tree .room)
+shared-slice-read-t16 : tie.Need-shared-slice-read-t16
+shared-slice-read-t16 c = omega (arith, ltb-true (c .before .before .before .before .before .before .before .args .slot) (c .before .before .before .before .before .before .before .args .to) (c .before .before .if3 .taken), c .before .before .before .before .before .before .before .pre .inside, c .before .before .before .before .before .before .before .pre .tree .room)
+
+equals-requires : tie.Need-equals-requires
+equals-requires c κs = search needs
 
 returns-2 : tie.Need-returns-2
 returns-2 c =
+    let stands = sym (eqb-true _ _ (sym (c .before .equals .ensures) ∙ c .if4 .taken)) in
     record {
-      place-is = smallest-first _ _ (c .before .before .before .before .before .before .before .before .before .pre .tree .room) _ _ _ _ (c .before .before .before .before .before .if2 .taken) (ltb-true _ _ (c .before .before .before .before .if3 .taken)) (c .before .before .before .before .before .before .before .before .before .pre .inside) (c .before .before .before .before .before .before .before .before .before .pre .some-place) (c .before .before .before .before .before .before .before .before .before .pre .no-smaller) (c .if4 .taken);
+      place-is = smallest-first _ _ (c .before .before .before .before .before .before .before .before .before .pre .tree .room) _ _ _ _ (c .before .before .before .before .before .if2 .taken) (ltb-true _ _ (c .before .before .before .before .if3 .taken)) (c .before .before .before .before .before .before .before .before .before .pre .inside) (c .before .before .before .before .before .before .before .before .before .pre .some-place) (c .before .before .before .before .before .before .before .before .before .pre .no-smaller) stands;
       visits-are = c .before .before .before .before .before .before .count-visits .ensures;
     }
 
@@ -45,9 +50,10 @@ lookup-spec =
     (tie.spec
     returns
     count-visits-requires
-    add-if4
-    mul-if4
-    shared-slice-read-if4
+    add-t13
+    mul-t14
+    shared-slice-read-t16
+    equals-requires
     returns-2
     range-minimum-requires
     returns-3)
