@@ -107,14 +107,6 @@ impl Report {
         self.pass(group, count, start);
     }
 
-    /// That what was found is what is expected.
-    pub fn same<T: PartialEq + Debug>(name: &str, found: T, expected: T) -> Outcome {
-        if found == expected {
-            return Ok(());
-        }
-        Err(format!("{name} is {found:?}, not {expected:?}"))
-    }
-
     /// How often each answer came, and that each of the numbers named came at least `least` times;
     /// 0 stands for no refusal.
     pub fn answer_counts(&mut self, answers: &AnswerCounts, numbers: &[usize], least: u64) {
