@@ -1,7 +1,5 @@
 // The sweep over a schedule (000, Algorithm 2): each place still free at its turn takes the smallest place that waits in the span that it asks for. It
 // knows places, slots and spans of slots; no tree of layouts, layout or job.
-mod segment_tree;
-
 use model::Rank;
 use schedule::TREE;
 use segment_tree::Found;
