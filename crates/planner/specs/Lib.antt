@@ -1,2 +1,1 @@
-pub mod HandBack
 pub mod Planned

@@ -24,7 +24,7 @@ use Rattle.jobs.specs.declared.JobCheck.the-variants as check
 use Rattle.matching.specs.MaximumAtEveryCut.{our-plan-maximum}
 use Rattle.sweep_laws.specs.Room.{sweep-room}
 use Rattle.passes.specs.Making.{Roomy, Made}
-use Rattle.planner.specs.HandBack.{Returned}
+use Rattle.hand_back.specs.HandBack.{Returned}
 
 -- results of one cell for each of n jobs, and the work cells
 pub record Room (n : ℕ) (partners printed work : List ℕ) : Type 0 where

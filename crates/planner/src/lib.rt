@@ -1,6 +1,4 @@
 // The pass planner (document 01, *Plan*): a table's schedule, the sweep over it, and the passes handed back by job number.
-mod hand_back;
-
 use jobs::JobCheck;
 use model::JobNumber;
 use model::Planned;

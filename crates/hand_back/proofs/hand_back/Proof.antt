@@ -1,4 +1,4 @@
--- `planner::hand_back::hand_back` meets its contract: each pass is read and written.
+-- `hand_back::hand_back` meets its contract: each pass is read and written.
 use Prim.Native.Nat.{ℕ, _-_}
 use mathlib.Core.Path.{_≡_, refl, sym, _∙_}
 use mathlib.Core.List.{List}
@@ -7,10 +7,10 @@ use Rattle.model.specs.Jobs.{Table}
 use Rattle.ancestry.specs.SparseTable.{Minima, Searchable}
 use Rattle.ancestry.specs.Room.{roomy-all}
 use Rattle.passes.specs.PlanPass.{Plan, jobs-are, plan-cells}
-use Rattle.planner.specs.HandBack.{HandedBack, handed-none, plan-inside, plan-more, plan-returned}
+use Rattle.hand_back.specs.HandBack.{HandedBack, handed-none, plan-inside, plan-more, plan-returned}
 use borrow.Author.Needs.{needs}
-use Rattle.planner.proofs.hand_back.hand_back.Statement.{statement}
-use Rattle.planner.proofs.hand_back.hand_back.Tie as tie
+use Rattle.hand_back.proofs.hand_back.Statement.{statement}
+use Rattle.hand_back.proofs.hand_back.Tie as tie
 use Rattle.passes.proofs.pass_at.Reads as pass-at-reads
 
 -- the first k passes are handed back, whatever table the plan is of

@@ -1,9 +1,9 @@
--- `planner::hand_back::write_pass` meets its contract: the cells of its jobs are set.
+-- `hand_back::write_pass` meets its contract: the cells of its jobs are set.
 use mathlib.Core.Path.{_∙_}
 use native.Mathlib.Omega.{arith}
 use borrow.Author.Needs.{needs}
-use Rattle.planner.proofs.hand_back.write_pass.Statement.{statement}
-use Rattle.planner.proofs.hand_back.write_pass.Tie as tie
+use Rattle.hand_back.proofs.write_pass.Statement.{statement}
+use Rattle.hand_back.proofs.write_pass.Tie as tie
 
 enum-known-pass : tie.Need-enum-known-pass
 enum-known-pass c = search needs

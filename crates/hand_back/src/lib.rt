@@ -9,7 +9,7 @@ ghost use lib.ListN.{length, set};
 ghost use Rattle.model.specs.Tree.{FFFF};
 ghost use Rattle.model.specs.Jobs.{Table};
 ghost use Rattle.passes.specs.PlanPass.{Plan};
-ghost use Rattle.planner.specs.HandBack.{partnersWith, printedWith, Inside, Returned};
+ghost use Rattle.hand_back.specs.HandBack.{partnersWith, printedWith, Inside, Returned};
 
 // Each of two jobs finds the other.
 fn set_partners(partners: &mut [u16], one: JobNumber, other: JobNumber)

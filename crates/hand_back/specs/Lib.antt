@@ -1,0 +1,2 @@
+-- What handing back promises: the partners and printed layouts of all jobs.
+pub mod HandBack
