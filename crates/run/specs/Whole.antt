@@ -13,7 +13,7 @@ use Rattle.model.specs.Table.{Reading, stopped, readTable}
 use Rattle.model.specs.Output.{planBytes, refusalBytes, readingBytes, runBytes, outputBytes, outputVerdict, runLength, runOutput}
 use Rattle.model.specs.Outcomes.{RunOutcome}
 use Rattle.model.specs.declared.Refusal.{Refusal}
-use Rattle.table.specs.Steps.{Unused, Room, BuffersReady, held}
+use Rattle.reading.specs.Steps.{Unused, Room, BuffersReady, held}
 use Rattle.table.specs.Whole.{TableHeld}
 use Rattle.sweep_laws.specs.Room.{sweep-room}
 use Rattle.passes.specs.Making.{Roomy}

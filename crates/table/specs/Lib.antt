@@ -1,6 +1,2 @@
--- What each step of the reader promises, and the laws of reading line by line.
-pub mod Unchecked
-pub mod Steps
-pub mod Lines
-pub mod Held
+-- What reading a table comes to, put together from its parts.
 pub mod Whole

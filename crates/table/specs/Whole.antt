@@ -29,9 +29,9 @@ use Rattle.jobs.specs.Accepted.{Accepted, table-accepted}
 use Rattle.jobs.specs.Checks.{checkVerdict, JobsChecked}
 use Rattle.jobs.specs.declared.JobCheck.{JobCheck}
 use Rattle.jobs.specs.declared.JobCheck.the-variants as check
-use Rattle.table.specs.Unchecked.{onItsLine, checked, read-checked}
-use Rattle.table.specs.Steps.{Unused, Spare, Roomy, BuffersReady, held, Holds, stopVerdict, LinesRead}
-use Rattle.table.specs.declared.unchecked.Stop.{Stop}
+use Rattle.reading.specs.Unchecked.{onItsLine, checked, read-checked}
+use Rattle.reading.specs.Steps.{Unused, Spare, Roomy, BuffersReady, held, Holds, stopVerdict, LinesRead}
+use Rattle.reading.specs.declared.Stop.{Stop}
 
 -- ---- the lines
 

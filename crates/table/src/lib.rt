@@ -1,15 +1,13 @@
 // *Read a table* (document 01, "What each operation turns away"): from bytes to parents, tops, bottoms and solo marks.
-mod unchecked;
-
 use jobs::JobCheck;
 use model::Counts;
 use model::JobNumber;
 use model::LayoutNumber;
 use model::Refusal;
 use model::TableRead;
+use reading::Lines;
+use reading::Stop;
 use settle::TREE;
-use unchecked::Lines;
-use unchecked::Stop;
 ghost use mathlib.Core.Path.{_≡_};
 ghost use mathlib.Core.Bool.{not};
 ghost use Prim.Native.Nat.{_+_, _<_, _≤_};
@@ -21,7 +19,7 @@ ghost use Rattle.model.specs.Table.{readTable, buffersVerdict};
 ghost use Rattle.model.specs.Outcomes.{ReadAs, ReadOutcome};
 ghost use Rattle.settle.specs.Spanned.{treeCells, Spanned};
 ghost use Rattle.jobs.specs.Checks.{checkVerdict};
-ghost use Rattle.table.specs.Steps.{Spare, BuffersReady, stopVerdict};
+ghost use Rattle.reading.specs.Steps.{Spare, BuffersReady, stopVerdict};
 ghost use Rattle.table.specs.Whole.{BuffersLong, Answerable, answerVerdict, LinesOutcome};
 
 // As buffers are where nothing is used.
@@ -84,7 +82,7 @@ pub fn read_lines(
     requires { ⌜ length (now tree) ≡ treeCells ⌝ }
     ensures { λ r. ⌜ LinesOutcome (readTable (now (bytes .entry))) (now (parents .exit)) (now (tops .exit)) (now (bottoms .exit)) (now (marks .exit)) (now (tree .exit)) r ⌝ }
 {
-    let lines = unchecked::read_unchecked(bytes, parents, tops, bottoms, marks);
+    let lines = reading::read_unchecked(bytes, parents, tops, bottoms, marks);
     let layouts = lines.layouts;
     let jobs = lines.jobs;
     settle_some(&parents[..layouts], tree);

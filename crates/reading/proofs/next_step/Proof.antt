@@ -1,12 +1,12 @@
--- `table::unchecked::next_step` meets its contract: the line's answer, and the verdict on its frame.
+-- `reading::next_step` meets its contract: the line's answer, and the verdict on its frame.
 use Prim.Native.Nat.{_+_}
 use Rattle.model.specs.Answers.{frameCase}
 use Rattle.frame.specs.Lines.{frame-answered, refusal-answered}
-use Rattle.table.specs.Steps.{frameAt, endedAt}
-use Rattle.table.specs.Lines.{no-frame-read, step-by-frame}
+use Rattle.reading.specs.Steps.{frameAt, endedAt}
+use Rattle.reading.specs.Lines.{no-frame-read, step-by-frame}
 use borrow.Author.Needs.{needs}
-use Rattle.table.proofs.unchecked.next_step.Statement.{statement}
-use Rattle.table.proofs.unchecked.next_step.Tie as tie
+use Rattle.reading.proofs.next_step.Statement.{statement}
+use Rattle.reading.proofs.next_step.Tie as tie
 use Rattle.frame.proofs.read_frame.Reads as read-frame-reads
 
 line-number-requires : tie.Need-line-number-requires

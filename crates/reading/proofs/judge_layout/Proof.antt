@@ -1,10 +1,10 @@
--- `table::unchecked::judge_layout` meets its contract: each test makes its verdict.
+-- `reading::judge_layout` meets its contract: each test makes its verdict.
 use mathlib.Core.Path.{sym, _∙_}
-use Rattle.table.specs.Lines.{layout-late, layout-beyond, layout-wrong, layout-right}
+use Rattle.reading.specs.Lines.{layout-late, layout-beyond, layout-wrong, layout-right}
 use native.Mathlib.Omega.{arith}
 use borrow.Author.Needs.{needs}
-use Rattle.table.proofs.unchecked.judge_layout.Statement.{statement}
-use Rattle.table.proofs.unchecked.judge_layout.Tie as tie
+use Rattle.reading.proofs.judge_layout.Statement.{statement}
+use Rattle.reading.proofs.judge_layout.Tie as tie
 use Rattle.settle.proofs.right_parent.Reads as right-parent-reads
 
 refuse-requires : tie.Need-refuse-requires

@@ -16,19 +16,19 @@ ghost use Rattle.model.specs.Jobs.{Table};
 ghost use Rattle.model.specs.Table.{layoutFrame, endFrame};
 ghost use Rattle.model.specs.Answers.{frameCase};
 ghost use Rattle.frame.specs.Fields.{DigitValues};
-ghost use Rattle.table.specs.Steps.{Counted, endedAt, FrameOutcome, StepOutcome, jobOf, BuffersReady, stopVerdict, LinesRead};
+ghost use Rattle.reading.specs.Steps.{Counted, endedAt, FrameOutcome, StepOutcome, jobOf, BuffersReady, stopVerdict, LinesRead};
 
 // How far the reading has come: where the next line begins, and how many layouts, jobs and ends stand before it.
-pub struct Progress {
-    pub at: usize,
-    pub layouts: usize,
-    pub jobs: usize,
-    pub ends: usize,
+struct Progress {
+    at: usize,
+    layouts: usize,
+    jobs: usize,
+    ends: usize,
 }
 
 // What the next line is: a layout with its parent, a job with its mark, or the end. A mark is a whole word here: a step that fits one word would be passed
 // packed into it, and taken apart again.
-pub enum Step {
+enum Step {
     Layout(LayoutNumber),
     Job(LayoutNumber, LayoutNumber, usize),
     End,

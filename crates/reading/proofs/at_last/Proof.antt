@@ -1,13 +1,13 @@
--- `table::unchecked::at_last` meets its contract: an end was read or none.
+-- `reading::at_last` meets its contract: an end was read or none.
 use Prim.Native.Nat.{ℕ, zero, suc, _+_}
 use mathlib.Core.Path.{_≡_, refl}
 use mathlib.Core.Bool.{cond}
 use Rattle.model.specs.Verdict.{Verdict, accepted, refused}
-use Rattle.table.specs.Steps.{endedAt}
+use Rattle.reading.specs.Steps.{endedAt}
 use mathlib.Core.Path.{refl}
 use borrow.Author.Needs.{needs}
-use Rattle.table.proofs.unchecked.at_last.Statement.{statement}
-use Rattle.table.proofs.unchecked.at_last.Tie as tie
+use Rattle.reading.proofs.at_last.Statement.{statement}
+use Rattle.reading.proofs.at_last.Tie as tie
 
 -- a count other than 0
 ended : (n : ℕ) (v : Verdict) → (n ≡ 0 → ⊥) → accepted ≡ cond (endedAt n) accepted v

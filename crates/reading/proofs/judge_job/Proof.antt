@@ -1,9 +1,9 @@
--- `table::unchecked::judge_job` meets its contract: each test makes its verdict.
+-- `reading::judge_job` meets its contract: each test makes its verdict.
 use mathlib.Core.Path.{sym, _∙_}
-use Rattle.table.specs.Lines.{job-early, job-beyond, job-right}
+use Rattle.reading.specs.Lines.{job-early, job-beyond, job-right}
 use borrow.Author.Needs.{needs}
-use Rattle.table.proofs.unchecked.judge_job.Statement.{statement}
-use Rattle.table.proofs.unchecked.judge_job.Tie as tie
+use Rattle.reading.proofs.judge_job.Statement.{statement}
+use Rattle.reading.proofs.judge_job.Tie as tie
 
 refuse-requires : tie.Need-refuse-requires
 refuse-requires c κs = search needs

@@ -1,9 +1,9 @@
--- `table::unchecked::judge_end` meets its contract: each test makes its verdict.
+-- `reading::judge_end` meets its contract: each test makes its verdict.
 use mathlib.Core.Path.{sym, _∙_}
-use Rattle.table.specs.Lines.{end-early, end-layouts, end-jobs, end-right}
+use Rattle.reading.specs.Lines.{end-early, end-layouts, end-jobs, end-right}
 use borrow.Author.Needs.{needs}
-use Rattle.table.proofs.unchecked.judge_end.Statement.{statement}
-use Rattle.table.proofs.unchecked.judge_end.Tie as tie
+use Rattle.reading.proofs.judge_end.Statement.{statement}
+use Rattle.reading.proofs.judge_end.Tie as tie
 
 refuse-requires : tie.Need-refuse-requires
 refuse-requires c κs = search needs

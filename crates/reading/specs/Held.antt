@@ -13,11 +13,11 @@ use Rattle.model.specs.Tree.{FFFF, layoutLimit, layoutsFrom}
 use Rattle.model.specs.Table.{extended}
 use Rattle.model.specs.declared.Refusal.{Refusal}
 use Rattle.tree_laws.specs.WellFormed.{layouts-more}
-use Rattle.table.specs.Unchecked.{halted, unchecked}
-use Rattle.table.specs.Steps.{uncheckedFrom, endedAt, LayoutLine, JobLine, EndLine, Unused, Room, Roomy, BuffersReady, held, SoFar, stopVerdict, LinesRead}
-use Rattle.table.specs.Lines.{no-bytes}
-use Rattle.table.specs.declared.unchecked.Stop.{Stop}
-use Rattle.table.specs.declared.unchecked.Stop.the-variants as stop
+use Rattle.reading.specs.Unchecked.{halted, unchecked}
+use Rattle.reading.specs.Steps.{uncheckedFrom, endedAt, LayoutLine, JobLine, EndLine, Unused, Room, Roomy, BuffersReady, held, SoFar, stopVerdict, LinesRead}
+use Rattle.reading.specs.Lines.{no-bytes}
+use Rattle.reading.specs.declared.Stop.{Stop}
+use Rattle.reading.specs.declared.Stop.the-variants as stop
 
 -- ---- cells
 

@@ -1,16 +1,16 @@
--- `table::unchecked::read_unchecked` meets its contract: each line makes its step, and the cells hold what was read so far.
+-- `reading::read_unchecked` meets its contract: each line makes its step, and the cells hold what was read so far.
 use Prim.Native.Nat.{ℕ, _+_, _-_}
 use mathlib.Core.Path.{_≡_, refl, subst, _∙_}
 use mathlib.Core.List.{List}
 use lib.ListN.{length, length-set}
 use lib.Seq.{length-take-le}
 use Rattle.frame.specs.Fields.{DigitValues}
-use Rattle.table.specs.Steps.{StepOutcome, LayoutLine, JobLine, EndLine, Roomy, BuffersReady, held, endedAt, SoFar}
-use Rattle.table.specs.Held.{so-far-none, layout-room, so-far-layout, top-room, bottom-room, mark-room, so-far-job, so-far-end, read-stopped, read-last}
+use Rattle.reading.specs.Steps.{StepOutcome, LayoutLine, JobLine, EndLine, Roomy, BuffersReady, held, endedAt, SoFar}
+use Rattle.reading.specs.Held.{so-far-none, layout-room, so-far-layout, top-room, bottom-room, mark-room, so-far-job, so-far-end, read-stopped, read-last}
 use borrow.Author.Needs.{needs}
 use native.Mathlib.Omega.{arith}
-use Rattle.table.proofs.unchecked.read_unchecked.Statement.{statement}
-use Rattle.table.proofs.unchecked.read_unchecked.Tie as tie
+use Rattle.reading.proofs.read_unchecked.Statement.{statement}
+use Rattle.reading.proofs.read_unchecked.Tie as tie
 use Rattle.frame.proofs.digit_values.Reads as digit-values-reads
 
 -- the cells keep their lengths and hold what was read so far

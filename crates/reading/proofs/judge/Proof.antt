@@ -1,4 +1,4 @@
--- `table::unchecked::judge` meets its contract: each kind of frame has its own verdict.
+-- `reading::judge` meets its contract: each kind of frame has its own verdict.
 use mathlib.Core.Path.{_≡_, refl, sym, subst}
 use Prim.Native.Nat.{ℕ, zero, suc}
 use mathlib.Core.Bool.{Bool}
@@ -7,13 +7,13 @@ use Rattle.model.specs.Jobs.{Table}
 use Rattle.model.specs.Answers.{frameCase}
 use Rattle.model.specs.Table as Format
 use Rattle.model.specs.declared.Frame.{Frame}
-use Rattle.table.specs.declared.unchecked.Step.{Step}
-use Rattle.table.specs.Unchecked.{uncheckedVerdict}
-use Rattle.table.specs.Steps.{endedAt, FrameOutcome}
-use Rattle.table.specs.Lines.{after-end}
+use Rattle.reading.specs.declared.Step.{Step}
+use Rattle.reading.specs.Unchecked.{uncheckedVerdict}
+use Rattle.reading.specs.Steps.{endedAt, FrameOutcome}
+use Rattle.reading.specs.Lines.{after-end}
 use borrow.Author.Needs.{needs}
-use Rattle.table.proofs.unchecked.judge.Statement.{statement}
-use Rattle.table.proofs.unchecked.judge.Tie as tie
+use Rattle.reading.proofs.judge.Statement.{statement}
+use Rattle.reading.proofs.judge.Tie as tie
 
 -- an end was read
 ended-late : (line : ℕ) (tb : Table) (f : Format.Frame) (ends : ℕ) → (ends ≡ 0 → ⊥) → uncheckedVerdict line tb (endedAt ends) f ≡ refused 2 line

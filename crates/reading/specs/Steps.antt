@@ -11,11 +11,11 @@ use Rattle.model.specs.Tree.{FFFF, layoutLimit, rightParent, layoutsFrom}
 use Rattle.model.specs.Jobs.{Table, tableOf, jobs, jobLimit}
 use Rattle.model.specs.Table.{lines, firstLine, layoutFrame, jobFrame, soloFrame, endFrame, frameOf, withJob, extended, emptyTable}
 use Rattle.model.specs.Table as Format
-use Rattle.table.specs.Unchecked.{Halted, halted, unchecked, uncheckedVerdict}
-use Rattle.table.specs.declared.unchecked.Step.{Step}
-use Rattle.table.specs.declared.unchecked.Step.the-variants as step
-use Rattle.table.specs.declared.unchecked.Stop.{Stop}
-use Rattle.table.specs.declared.unchecked.Stop.the-variants as stop
+use Rattle.reading.specs.Unchecked.{Halted, halted, unchecked, uncheckedVerdict}
+use Rattle.reading.specs.declared.Step.{Step}
+use Rattle.reading.specs.declared.Step.the-variants as step
+use Rattle.reading.specs.declared.Stop.{Stop}
+use Rattle.reading.specs.declared.Stop.the-variants as stop
 
 -- what reading the bytes from `at` on comes to, the checks of jobs put off
 abbrev pub uncheckedFrom : List ℕ → ℕ → ℕ → Table → Bool → Halted

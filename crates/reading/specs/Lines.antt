@@ -15,10 +15,10 @@ use Rattle.model.specs.Jobs.{Table, jobs, jobLimit}
 use Rattle.model.specs.Table.{lines, layoutFrame, jobFrame, soloFrame, endFrame, contentVerdict, outOfOrder, withJob, extended, isEnd}
 use Rattle.model.specs.Table as Format
 use Rattle.frame.specs.Lines.{width, next-line, some-line}
-use Rattle.table.specs.Unchecked.{halted, uncheckedContent, uncheckedVerdict, unlessStopped, uncheckedFrame, unchecked}
-use Rattle.table.specs.Steps.{uncheckedFrom, frameAt, jobOf, LayoutFrame, JobFrame, EndFrame, FrameOutcome, StepOutcome}
-use Rattle.table.specs.declared.unchecked.Step.{Step}
-use Rattle.table.specs.declared.unchecked.Step.the-variants as step
+use Rattle.reading.specs.Unchecked.{halted, uncheckedContent, uncheckedVerdict, unlessStopped, uncheckedFrame, unchecked}
+use Rattle.reading.specs.Steps.{uncheckedFrom, frameAt, jobOf, LayoutFrame, JobFrame, EndFrame, FrameOutcome, StepOutcome}
+use Rattle.reading.specs.declared.Step.{Step}
+use Rattle.reading.specs.declared.Step.the-variants as step
 
 -- no bytes are left
 pub no-bytes : (s : List ℕ) (at line : ℕ) (tb : Table) (ended : Bool) → length s ≤ at → uncheckedFrom s at line tb ended ≡ halted tb ended (cond ended accepted (refused 7 line))

@@ -1,8 +1,8 @@
--- `table::unchecked::refuse` meets its contract: the line has its number.
+-- `reading::refuse` meets its contract: the line has its number.
 use mathlib.Core.Path.{refl}
 use borrow.Author.Needs.{needs}
-use Rattle.table.proofs.unchecked.refuse.Statement.{statement}
-use Rattle.table.proofs.unchecked.refuse.Tie as tie
+use Rattle.reading.proofs.refuse.Statement.{statement}
+use Rattle.reading.proofs.refuse.Tie as tie
 
 line-number-requires : tie.Need-line-number-requires
 line-number-requires c κs = search needs
