@@ -137,7 +137,7 @@ fn long_frame(digits: &[u32; 256], s: &[u8], line: u16) -> FrameRead
     match kind {
         2 => FrameRead::Read(Frame::Job(LayoutNumber(first), LayoutNumber(second))),
         4 => FrameRead::Read(Frame::Solo(LayoutNumber(first), LayoutNumber(second))),
-        3 => FrameRead::Read(Frame::End(first, second)),
+        3 => FrameRead::Read(Frame::End(first as usize, second as usize)),
         _ => no_frame(line),
     }
 }

@@ -103,7 +103,8 @@ pub enum Frame {
     Layout(LayoutNumber),
     Job(LayoutNumber, LayoutNumber),
     Solo(LayoutNumber, LayoutNumber),
-    End(u16, u16),
+    // The counts are whole words: a frame that fits one word would be passed packed into it, and taken apart again.
+    End(usize, usize),
 }
 
 // What reading a line answers.

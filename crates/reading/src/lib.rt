@@ -99,17 +99,17 @@ fn judge_job(top: LayoutNumber, bottom: LayoutNumber, mark: usize, p: Progress) 
 }
 
 // The end: 2 before any layout, 7 with wrong counts.
-fn judge_end(n: u16, m: u16, p: Progress) -> Step
+fn judge_end(n: usize, m: usize, p: Progress) -> Step
     requires { ⌜ Counted (p .layouts) (p .jobs) (p .ends) ⌝ }
     ensures { λ r. ⌜ ((tb : Table) → length (tb .parents) ≡ p .layouts → length (tb .tops) ≡ p .jobs → FrameOutcome (p .layouts + p .jobs + p .ends + 1) tb false (endFrame n m) r) ⌝ }
 {
     if p.layouts == 0 {
         return refuse(2, p);
     }
-    if n as usize != p.layouts {
+    if n != p.layouts {
         return refuse(7, p);
     }
-    if m as usize != p.jobs {
+    if m != p.jobs {
         return refuse(7, p);
     }
     Step::End

@@ -59,6 +59,12 @@ kind-of-requires c κs =
     let start = c .before .before .before .before .before in
     omega (arith, ends-within 10 (start .args .s .now) (start .pre .1 .1))
 
+cast-t17 : tie.Need-cast-t17
+cast-t17 c = search needs
+
+cast-t18 : tie.Need-cast-t18
+cast-t18 c = search needs
+
 no-frame-requires-3 : tie.Need-no-frame-requires-3
 no-frame-requires-3 c κs = search needs
 
@@ -90,6 +96,8 @@ long-frame-spec =
     cast-first
     cast-second
     kind-of-requires
+    cast-t17
+    cast-t18
     no-frame-requires-3
     returns-3
     returns-4
