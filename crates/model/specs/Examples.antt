@@ -105,7 +105,8 @@ record Printing : Type 0 where
   lines : List (List ℕ)
   spells : List (List ℕ)
 
--- the bakehouse table, no bytes at all, and the two refused tables
+-- the bakehouse table, no bytes at all, the two refused tables, and F 0; solo 1-1, 1-1, 1-1: a solo job has its place and its slot, so W is 4 and the lookup of
+-- job 1 visits 5 cells
 printings : List Printing
 printings =
     record {
@@ -136,6 +137,21 @@ printings =
     ∷ record {
       lines = (0 ∷ 1 ∷ 15 ∷ 15 ∷ 15 ∷ 15 ∷ []) ∷ (0 ∷ 1 ∷ 0 ∷ 0 ∷ 0 ∷ 0 ∷ []) ∷ (0 ∷ 2 ∷ 0 ∷ 0 ∷ 0 ∷ 1 ∷ 0 ∷ 0 ∷ 0 ∷ 0 ∷ []) ∷ [];
       spells = (1 ∷ 14 ∷ 0 ∷ 6 ∷ 0 ∷ 0 ∷ 0 ∷ 3 ∷ []) ∷ [];
+    }
+    ∷ record {
+      lines =
+          (0 ∷ 1 ∷ 15 ∷ 15 ∷ 15 ∷ 15 ∷ [])
+          ∷ (0 ∷ 1 ∷ 0 ∷ 0 ∷ 0 ∷ 0 ∷ [])
+          ∷ (0 ∷ 4 ∷ 0 ∷ 0 ∷ 0 ∷ 1 ∷ 0 ∷ 0 ∷ 0 ∷ 1 ∷ [])
+          ∷ (0 ∷ 2 ∷ 0 ∷ 0 ∷ 0 ∷ 1 ∷ 0 ∷ 0 ∷ 0 ∷ 1 ∷ [])
+          ∷ (0 ∷ 2 ∷ 0 ∷ 0 ∷ 0 ∷ 1 ∷ 0 ∷ 0 ∷ 0 ∷ 1 ∷ [])
+          ∷ (0 ∷ 3 ∷ 0 ∷ 0 ∷ 0 ∷ 2 ∷ 0 ∷ 0 ∷ 0 ∷ 3 ∷ [])
+          ∷ [];
+      spells =
+          (1 ∷ 2 ∷ 0 ∷ 0 ∷ 0 ∷ 0 ∷ [])
+          ∷ (1 ∷ 1 ∷ 0 ∷ 0 ∷ 0 ∷ 1 ∷ 0 ∷ 0 ∷ 0 ∷ 2 ∷ 0 ∷ 0 ∷ 0 ∷ 1 ∷ [])
+          ∷ (1 ∷ 15 ∷ 0 ∷ 0 ∷ 0 ∷ 1 ∷ 0 ∷ 0 ∷ 0 ∷ 1 ∷ 0 ∷ 0 ∷ 0 ∷ 0 ∷ 0 ∷ 0 ∷ 0 ∷ 5 ∷ [])
+          ∷ [];
     }
     ∷ []
 

@@ -1,5 +1,5 @@
 -- What *Plan* turns away and what it gives back (docs/RULES.md, 11 and 6; document 01, "What each operation turns away").
-use Prim.Native.Nat.{ℕ, _-_}
+use Prim.Native.Nat.{ℕ}
 use mathlib.Core.Bool.{cond, not, _||_}
 use mathlib.Core.List.{List, [], _∷_, map, foldr}
 use lib.ListN.{length}
@@ -59,7 +59,7 @@ module _ (tb : Table) where
   unfoldable pub partners : List ℕ
   partners = map (partnerIn (passes tb)) (numbers (jobs tb))
 
-  -- the layout that j's pass prints, FFFF where it has no partner
+  -- the layout that j's pass prints, FFFF where it has no partner. Both jobs of a pair find the same (ancestry/Ancestry `shared-symmetric`)
   unfoldable pub printed : ℕ → ℕ
   printed j = cond (eqb (partnerIn (passes tb) j) FFFF) FFFF (deepestShared tb j (partnerIn (passes tb) j))
 

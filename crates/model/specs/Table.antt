@@ -138,7 +138,7 @@ unfoldable pub unlessRefused : Verdict → Reading → Reading
 unlessRefused accepted r = r
 unlessRefused (refused number place) r = stopped number place
 
--- a line that is no frame is refusal 1; `later` reads the lines after it
+-- a line that is no frame is refusal 1; `later` reads the lines after it, of which there is none without a refusal once the end is read
 unfoldable pub readFrame : (Table → Bool → Reading) → ℕ → Table → Bool → Option Frame → Reading
 readFrame later line tb ended none = stopped 1 line
 readFrame later line tb ended (some f) = unlessRefused (frameVerdict line tb ended f) (later (extended tb f) (isEnd f))

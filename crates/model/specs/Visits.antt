@@ -45,7 +45,7 @@ module _ (tb : Table) where
   unfoldable pub askedSlots : ℕ → List ℕ
   askedSlots i = select (asksFor i) (numbers (jobs tb))
 
-  -- slots stand by first leaf, so these are a span: from the first of them up to as many more as there are
+  -- slots stand by first leaf, so these are a span (schedule_laws/Asked `asked-range`): from the first of them up to as many more as there are
   unfoldable pub askedFrom : ℕ → ℕ
   askedFrom i = headD (askedSlots i) 0
 

@@ -138,7 +138,7 @@ module _ (tb : Table) where
         slot-left i (suc (lastLeaf (tb .parents) (top tb i))) known (omega (arith, own .0 .last))
 
     -- the slots asked for are those from `start` up to `end`
-    asked-range : askedSlots tb i ≡ numbersFrom (start i) (end i - start i)
+    pub asked-range : askedSlots tb i ≡ numbersFrom (start i) (end i - start i)
     unfolding askedSlots numbers
     asked-range =
         select-agree (asksFor tb i) (between (start i) (end i)) (numbers (jobs tb)) (mem-all (λ (s : ℕ). asksFor tb i s ≡ between (start i) (end i) s) (numbers (jobs tb)) (λ s m. asks-between i s (numbers-mem (jobs tb) m)))

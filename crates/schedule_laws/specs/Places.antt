@@ -48,13 +48,9 @@ module _ (tb : Table) where
       (place-earlier tb (jobAt tb p) (jobAt tb q) (job-known p p-known) (job-known q h) (rw (place-of-job tb p 0 p-known, place-of-job tb q 0 h) l))
 
   module _ (a : Accepted tb) (i j : ℕ) (i-known : i < jobs tb) (j-known : j < jobs tb) where
-    -- the test of Theorem 6 without the depth of top j, which the order of the places gives
-    pub theorem-6-ordered : topDepth tb j ≤ topDepth tb i → shares tb i j ≡ (leb (firstLeaf (tb .parents) (top tb i)) (bottomLeaf tb j) && leb (bottomLeaf tb j) (lastLeaf (tb .parents) (top tb i)) && leb (topDepth tb i) (depth (tb .parents) (bottom tb j)))
-    theorem-6-ordered d = theorem-6-test tb (a .tree) i j (a .downward i i-known) (a .downward j j-known) d (a .top-known i i-known) (a .bottom-known j j-known)
-
     -- for places i < j, the jobs share exactly if bottom j's first leaf lies in the span of top i, and depth of top j ≤ depth of top i ≤ depth of bottom j
     -- (000, Theorem 6)
     pub theorem-6-by-place : place tb i < place tb j → shares tb i j ≡ ((leb (firstLeaf (tb .parents) (top tb i)) (bottomLeaf tb j) && leb (bottomLeaf tb j) (lastLeaf (tb .parents) (top tb i))) && (leb (topDepth tb j) (topDepth tb i) && leb (topDepth tb i) (depth (tb .parents) (bottom tb j))))
     theorem-6-by-place l =
         let order : topDepth tb j ≤ topDepth tb i = earlier-depth tb i j (place-earlier tb i j i-known j-known l) in
-        theorem-6-ordered order ∙ rw (le-leb (topDepth tb j) (topDepth tb i) order) refl
+        theorem-6-test tb (a .tree) i j (a .downward i i-known) (a .downward j j-known) order (a .top-known i i-known) (a .bottom-known j j-known) ∙ rw (le-leb (topDepth tb j) (topDepth tb i) order) refl

@@ -9,7 +9,7 @@ use native.Mathlib.Omega.{arith}
 use native.Mathlib.Decide.{ℕ-discrete}
 use lib.ListN.{length, length-map}
 use lib.Dec.{leb, ltb}
-use borrow.Author.Tests.{lt-ltb, ne-eqb, not-true, not-false}
+use borrow.Author.Tests.{lt-ltb, le-leb, ne-eqb, not-true, not-false}
 use Rattle.model.specs.Lists.{numbers, indexOf, total}
 use Rattle.model.specs.Tree.{FFFF}
 use Rattle.model.specs.Jobs.{Table, jobs, solo, shares, topDepth}
@@ -24,11 +24,11 @@ use Rattle.laws.specs.Places.{index-getD}
 use Rattle.laws.specs.Levels.{levels-wide}
 use Rattle.laws.specs.Counting.{count-bound}
 use Rattle.jobs.specs.Accepted.{Accepted}
-use Rattle.matching.specs.RunningOrder.{slot-lt, slot-injective}
+use Rattle.matching.specs.RunningOrder.{place-of-job, slot-lt, slot-injective}
 use Rattle.matching.specs.Renamed.{renamed, greedy-renamed, pairs-renamed, total-renamed}
 use Rattle.schedule.specs.Schedule.{places, slotAt, fromAt, toAt, dueAt, fits, passesByPlace, visitsAt, visitsOf, totalVisits, Sound}
 use Rattle.schedule.specs.OfTable.{jobAt, asking, bottomDepth, reachOrder, due, scheduleOf}
-use Rattle.schedule_laws.specs.Places.{job-known, job-once, running-list, later-depth, theorem-6-ordered}
+use Rattle.schedule_laws.specs.Places.{job-known, job-once, running-list, later-depth, theorem-6-by-place}
 use Rattle.schedule_laws.specs.Asked.{asked-slot, asked-bound, asks-itself}
 use Rattle.schedule_laws.specs.ReachOrder.{reachAt, reach-at, reach-length, reach-distinct, reached-deep, due-within, due-later, reached-in-time}
 
@@ -151,7 +151,8 @@ module _ (tb : Table) where
       unfolding bottomDepth
       shares-asked =
           rw (asked-slot tb a (jobAt tb p) (job-known tb p p-known) (jobAt tb q) (job-known tb q h))
-          (theorem-6-ordered tb a (jobAt tb p) (jobAt tb q) (job-known tb p p-known) (job-known tb q h) (later-depth tb p q l h))
+          (theorem-6-by-place tb a (jobAt tb p) (jobAt tb q) (job-known tb p p-known) (job-known tb q h) (rw (place-of-job tb p 0 p-known, place-of-job tb q 0 h) l)
+          ∙ rw (le-leb (topDepth tb (jobAt tb q)) (topDepth tb (jobAt tb p)) (later-depth tb p q l h)) refl)
 
       compatible-is : compatible tb (jobAt tb p) (jobAt tb q) ≡ (asking tb p && asking tb q && shares tb (jobAt tb p) (jobAt tb q))
       unfolding compatible asking
