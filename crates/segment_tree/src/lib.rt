@@ -21,9 +21,9 @@ pub struct Shape {
     pub width: usize,
 }
 
-// How many nodes the uppermost level that is kept has, at most: a search goes along so many in a few dozen steps, eight nodes at a time, and a tree with no more
+// How many nodes the uppermost level that is kept has, at most: a search goes along so many in a few dozen steps, sixteen nodes at a time, and a tree with no more
 // slots needs no other nodes.
-const KEPT: usize = 256;
+const KEPT: usize = 512;
 
 fn kept_for(width: usize) -> usize
     requires { ⌜ 1 ≤ width ⌝ }
