@@ -6,3 +6,4 @@ pub mod Leaves
 pub mod Spans
 pub mod Sharing
 pub mod Deepest
+pub mod Branches
