@@ -1,7 +1,7 @@
 //! How long the whole run takes, from the bytes of a table to the bytes of its plan: the proved one,
-//! the one written by hand (a wider segment tree, a sparse table), and the quadratic one. All three run in this
-//! process on the same tables, each table the same in every process. They take turns, and the least
-//! time of many calls counts, so that what else the machine does weighs little.
+//! the one written by hand, and the quadratic one. All three run in this process on the same tables,
+//! each table the same in every process. They take turns, and the least time of many calls counts, so
+//! that what else the machine does weighs little.
 //!
 //! One call is timed from its start to its end, with all that it does itself: reading, planning,
 //! printing, and zeros over the rest of the output. Input and output are lent, the same to all calls
