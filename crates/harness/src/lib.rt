@@ -66,7 +66,7 @@ pub extern "C" fn harness_settle(
 ) -> u32
     ensures { λ r. ⌜ PackedSettle (now (parents .entry)) (now (depths .entry)) (now (firsts .entry)) (now (lasts .entry)) r (now (depths .exit)) (now (firsts .exit)) (now (lasts .exit)) ⌝ }
 {
-    let answer = settle::settle_layouts(parents, depths, firsts, lasts);
+    let answer = settle_layouts::settle_layouts(parents, depths, firsts, lasts);
     packed_settled(answer)
 }
 

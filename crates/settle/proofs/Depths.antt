@@ -15,7 +15,7 @@ use Rattle.tree_laws.specs.WellFormed.{Tree}
 use Rattle.tree_laws.specs.Ancestors.{depth-root, depth-child, depth-le}
 use Rattle.settle.specs.Spanned.{treeCells}
 use Rattle.settle.specs.Numbering.{Stamped, below}
-use Rattle.settle.proofs.Stamps.{stamped-cell, stamped-reads, stamped-as, one-more}
+use Rattle.settle.specs.Stamps.{stamped-cell, stamped-reads, stamped-as, one-more}
 
 -- the depths of the layouts below x are written, and no other cell
 pub record DepthsBelow (ps : List ℕ) (x : ℕ) (old new : List ℕ) : Type 0 where

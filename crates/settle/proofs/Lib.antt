@@ -1,7 +1,5 @@
 -- Laws that the proofs of settling cite.
 pub mod Laws
-pub mod Stamps
-pub mod Copies
 pub mod Links
 pub mod Depths
 pub mod Walk

@@ -21,7 +21,7 @@ use Rattle.tree_laws.specs.Children.{child-parent, child-greater, rest-greater,
 use Rattle.tree_laws.specs.Leaves.{leaves-nonempty, leaves-of-leaf, leaves-of-children, first-of-child, last-is, last-lt}
 use Rattle.settle.specs.Spanned.{firstCells, lastCells, treeCells}
 use Rattle.settle.specs.Numbering.{isChild, childrenFrom, siblingCells, Linked, Stamped, inSubtree, properlyInSubtree, Numberable, Numbered}
-use Rattle.settle.proofs.Stamps.{stamped-as, stamped-set, stamped-other, stamped-then}
+use Rattle.settle.specs.Stamps.{stamped-as, stamped-set, stamped-other, stamped-then}
 
 -- ---- the children after a child
 

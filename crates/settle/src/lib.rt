@@ -1,4 +1,4 @@
-// Depth, first leaf and last leaf of each layout (document 01, "Settle layouts"), in a tree array.
+// Depth, first leaf and last leaf of each layout in a tree array, and the check of the parents that they come from.
 use buffers::wide;
 use model::LayoutNumber;
 use model::Refusal;
@@ -11,7 +11,6 @@ ghost use lib.Dec.{ltb};
 ghost use Rattle.model.specs.Verdict.{refuses, answer, refuseIf, _then_};
 ghost use Rattle.model.specs.Tree.{layoutLimit, rightParent, treeVerdict, depth, ancestorOrSelf};
 ghost use Rattle.model.specs.Answers.{settledAnswer};
-ghost use Rattle.model.specs.Outcomes.{SettleOutcome};
 ghost use Rattle.tree_laws.specs.WellFormed.{Tree};
 ghost use Rattle.settle.specs.Spanned.{firstCells, lastCells, treeCells, Spanned};
 ghost use Rattle.settle.specs.Numbering.{FirstWrong, Unlinked, Linked, Stamped, below, SomeNumberable, EachNumbered, inSubtree, properlyInSubtree};
@@ -198,48 +197,4 @@ pub fn settle_tree(parents: &[u16], tree: &mut [u16; TREE])
     let mut links = [model::ABSENT; LINKS];
     link_children(parents, &mut links);
     number(&links, LayoutNumber(0), 0, tree);
-}
-
-// Copies `count` cells of a tree array from `from` on, and leaves the cells after them as they were.
-fn copy_out(tree: &[u16; TREE], from: usize, count: usize, results: &mut [u16])
-    requires { ⌜ from + count ≤ treeCells ⌝ }
-    requires { ⌜ count ≤ length (now results) ⌝ }
-    ensures { λ r. ⌜ Stamped 0 (length (now (results .entry))) (below count) (λ (y : ℕ). getD (now (tree .entry)) (from + y) 0) (now (results .entry)) (now (results .exit)) ⌝ }
-{
-    let mut x = 0;
-    while x < count {
-        results[x] = tree[from + x];
-        x += 1;
-    }
-}
-
-// Depth, first leaf and last leaf of each layout, or one refusal.
-pub fn settle_layouts(
-    parents: &[u16],
-    depths: &mut [u16],
-    firsts: &mut [u16],
-    lasts: &mut [u16],
-) -> Settled
-    ensures { λ r. ⌜ SettleOutcome (now (parents .entry)) (now (depths .entry)) (now (firsts .entry)) (now (lasts .entry)) r (now (depths .exit)) (now (firsts .exit)) (now (lasts .exit)) ⌝ }
-{
-    let count = parents.len();
-    if depths.len() < count {
-        return refuse(8, 0);
-    }
-    if firsts.len() < count {
-        return refuse(8, 0);
-    }
-    if lasts.len() < count {
-        return refuse(8, 0);
-    }
-    let checked = check_layouts(parents);
-    if let Settled::Refused(r) = checked {
-        return Settled::Refused(r);
-    }
-    let mut tree = [0; TREE];
-    settle_tree(parents, &mut tree);
-    copy_out(&tree, DEPTH, count, depths);
-    copy_out(&tree, FIRST, count, firsts);
-    copy_out(&tree, LAST, count, lasts);
-    Settled::Done
 }

@@ -7,8 +7,8 @@ use native.Mathlib.Omega.{arith}
 use lib.ListN.{length, set, length-set}
 use lib.Dec.{eqb, ltb}
 use borrow.Author.Tests.{le-ltb}
 use Rattle.settle.specs.Numbering.{Stamped, below}
-use Rattle.settle.proofs.Stamps.{stamped-cell, stamped-as, one-more}
+use Rattle.settle.specs.Stamps.{stamped-cell, stamped-as, one-more}
 
 -- the cells below x are copied, and no other
 pub record CopiedBelow (f : ℕ → ℕ) (count x : ℕ) (old new : List ℕ) : Type 0 where

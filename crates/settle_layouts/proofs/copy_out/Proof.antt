@@ -1,11 +1,11 @@
--- `settle::copy_out` meets its contract. The loop's invariant: the cells passed are copied.
+-- `settle_layouts::copy_out` meets its contract. The loop's invariant: the cells passed are copied.
 use Prim.Native.Nat.{ℕ, _+_, _-_}
 use lib.ListN.{getD}
-use Rattle.settle.proofs.Copies.{CopiedBelow, copied-none, copied-more, copied-all}
+use Rattle.settle_layouts.proofs.Copies.{CopiedBelow, copied-none, copied-more, copied-all}
 use borrow.Author.Needs.{needs}
 use native.Mathlib.Omega.{arith}
-use Rattle.settle.proofs.copy_out.Statement.{statement}
-use Rattle.settle.proofs.copy_out.Tie as tie
+use Rattle.settle_layouts.proofs.copy_out.Statement.{statement}
+use Rattle.settle_layouts.proofs.copy_out.Tie as tie
 
 abbrev Inv-loop : tie.InvT-loop
 Inv-loop tree from count results₀ x₀ results x = CopiedBelow (λ (y : ℕ). getD tree (from + y) 0) count x results₀ results

@@ -1,29 +1,29 @@
--- `settle::settle_layouts` meets its contract: one law of the verdict at each refusal, and else the three results copied out of the tree array.
+-- `settle_layouts::settle_layouts` meets its contract: one law of the verdict at each refusal, and else the three results copied out of the tree array.
 use mathlib.Core.Path.{refl, ap, _∙_}
 use Rattle.model.specs.Answers.{settledAnswer}
 use Rattle.settle.specs.Checked.{checked-refused, checked-accepted, checked-tree}
-use Rattle.settle.proofs.Outcome.{short-depths, short-firsts, short-lasts, roomy, refused-as, settled-as}
+use Rattle.settle_layouts.proofs.Outcome.{short-depths, short-firsts, short-lasts, roomy, refused-as, settled-as}
 use borrow.Author.Needs.{needs}
-use Rattle.settle.proofs.settle_layouts.Statement.{statement}
-use Rattle.settle.proofs.settle_layouts.Tie as tie
+use Rattle.settle_layouts.proofs.settle_layouts.Statement.{statement}
+use Rattle.settle_layouts.proofs.settle_layouts.Tie as tie
 
-refuse-requires : tie.Need-refuse-requires
-refuse-requires c κs = search needs
+too-short-requires : tie.Need-too-short-requires
+too-short-requires c κs = search needs
 
 returns : tie.Need-returns
-returns c = refused-as _ _ _ _ _ _ 8 0 (short-depths _ _ _ _ (c .before .if1 .taken)) (c .refuse .ensures)
+returns c = refused-as _ _ _ _ _ _ 8 0 (short-depths _ _ _ _ (c .before .if1 .taken)) (c .too-short .ensures)
 
-refuse-requires-2 : tie.Need-refuse-requires-2
-refuse-requires-2 c κs = search needs
+too-short-requires-2 : tie.Need-too-short-requires-2
+too-short-requires-2 c κs = search needs
 
 returns-2 : tie.Need-returns-2
-returns-2 c = refused-as _ _ _ _ _ _ 8 0 (short-firsts _ _ _ _ (c .before .before .if1 .left) (c .before .if2 .taken)) (c .refuse2 .ensures)
+returns-2 c = refused-as _ _ _ _ _ _ 8 0 (short-firsts _ _ _ _ (c .before .before .if1 .left) (c .before .if2 .taken)) (c .too-short2 .ensures)
 
-refuse-requires-3 : tie.Need-refuse-requires-3
-refuse-requires-3 c κs = search needs
+too-short-requires-3 : tie.Need-too-short-requires-3
+too-short-requires-3 c κs = search needs
 
 returns-3 : tie.Need-returns-3
-returns-3 c = refused-as _ _ _ _ _ _ 8 0 (short-lasts _ _ _ _ (c .before .before .before .if1 .left) (c .before .before .if2 .left) (c .before .if3 .taken)) (c .refuse3 .ensures)
+returns-3 c = refused-as _ _ _ _ _ _ 8 0 (short-lasts _ _ _ _ (c .before .before .before .if1 .left) (c .before .before .if2 .left) (c .before .if3 .taken)) (c .too-short3 .ensures)
 
 check-layouts-requires : tie.Need-check-layouts-requires
 check-layouts-requires c κs = search needs
@@ -76,11 +76,11 @@ pub settle-layouts-spec : {M : Type 1} → statement M
 settle-layouts-spec =
     tie.close
     (tie.spec
-    refuse-requires
+    too-short-requires
     returns
-    refuse-requires-2
+    too-short-requires-2
     returns-2
-    refuse-requires-3
+    too-short-requires-3
     returns-3
     check-layouts-requires
     enum-known-checked

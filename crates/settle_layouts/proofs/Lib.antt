@@ -1,0 +1,3 @@
+-- Laws that the proofs of *Settle layouts* cite.
+pub mod Copies
+pub mod Outcome
