@@ -215,18 +215,10 @@ kind-bytes (a ∷ b ∷ s) k h u = same-test _ _ to-bytes of-bytes
         let y = low-digit b (omega arith) (omega arith) in
         rw (x .0, y .0, eq-eqb (kindOf (a ∷ b ∷ s)) k (omega arith))
 
--- bytes below '0' and '0' itself spell no kind
-less-48 : (b k : ℕ) → 0 < k → eqb (b - 48) k ≡ eqb b (48 + k)
-less-48 b k h =
-    same-test _ _
-    (λ e. let q = eqb-true (b - 48) k e in eq-eqb b (48 + k) (omega arith))
-    (λ e. let q = eqb-true b (48 + k) e in eq-eqb (b - 48) k (omega arith))
-
 -- where the first byte is '0' the second tells the kind
-pub kind-read : (s : List ℕ) → 2 ≤ length s → getD s 0 0 ≡ 48 → KindRead s (getD s 1 0 - 48)
-kind-read s h e k l u =
-    less-48 (getD s 1 0) k l ∙ sym (kind-bytes s k h (omega arith) ∙ rw (eq-eqb (getD s 0 0) 48 e))
+pub kind-read : (s : List ℕ) → 2 ≤ length s → getD s 0 0 ≡ 48 → KindRead s (getD s 1 0)
+kind-read s h e k l u = sym (kind-bytes s k h (omega arith) ∙ rw (eq-eqb (getD s 0 0) 48 e))
 
 pub kind-unknown : (s : List ℕ) → 2 ≤ length s → (getD s 0 0 ≡ 48 → ⊥) → KindRead s 0
 kind-unknown s h e k l u =
-    ne-eqb 0 k (λ q. omega arith) ∙ sym (kind-bytes s k h (omega arith) ∙ rw (ne-eqb (getD s 0 0) 48 e))
+    ne-eqb 0 (48 + k) (λ q. omega arith) ∙ sym (kind-bytes s k h (omega arith) ∙ rw (ne-eqb (getD s 0 0) 48 e))

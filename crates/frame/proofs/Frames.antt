@@ -12,7 +12,7 @@ use lib.Dec.{eqb}
 use borrow.Author.Tests.{eqb-true, lt-ltb, le-ltb}
 use Rattle.model.specs.Lists.{allOf}
 use Rattle.model.specs.Table.{isDigit, kindOf, fieldAt, layoutFrame, jobFrame, soloFrame, endFrame, firstLine, frameOf}
-use Rattle.frame.specs.Fields.{FieldRead, KindRead, endsAfter}
+use Rattle.frame.specs.Fields.{FieldRead, spells, KindRead, endsAfter}
 use Rattle.frame.specs.Lines.{digitLine, end-within, short-line, longFrame, long-line, no-frame}
 
 -- ---- the digits of a line
@@ -70,7 +70,7 @@ module _ (s : List ℕ) (e : endsAfter 6 s ≡ true) (p : ℕ) (parent : FieldRe
   short-wrong h =
       no-frame s (short-digits s e ∙ rw (wrong s 2 p parent h, and-false (allOf isDigit (take 2 s)))) (no-long s e)
 
-  pub short-right : p < 65536 → (r : ℕ) → KindRead s r → frameOf (firstLine s) ≡ cond (eqb r 1) (some (layoutFrame p)) none
+  pub short-right : p < 65536 → (r : ℕ) → KindRead s r → frameOf (firstLine s) ≡ cond (spells r 1) (some (layoutFrame p)) none
   short-right h r kind = rw (kind 1 (omega arith) (omega arith), parent .value h) (go (allOf isDigit (take 2 s)) refl)
     where
       go : (t : Bool) → allOf isDigit (take 2 s) ≡ t → frameOf (firstLine s) ≡ cond (t && eqb (kindOf s) 1) (some (layoutFrame (fieldAt 2 s))) none
@@ -89,7 +89,7 @@ module _ (s : List ℕ) (a : endsAfter 6 s ≡ false) (e : endsAfter 10 s ≡ tr
   pub second-wrong : 65536 ≤ q → frameOf (firstLine s) ≡ none
   second-wrong h = wrong-digits (rw (wrong s 6 q second h, and-false (rightField 2 s)))
 
-  pub long-right : p < 65536 → q < 65536 → (r : ℕ) → KindRead s r → frameOf (firstLine s) ≡ longFrame r p q
+  pub long-right : p < 65536 → q < 65536 → (r : ℕ) → KindRead s r → frameOf (firstLine s) ≡ longFrame (spells r) p q
   long-right h k r kind =
       rw (kind 2 (omega arith) (omega arith), kind 3 (omega arith) (omega arith), kind 4 (omega arith) (omega arith), first .value h, second .value k)
       (go (allOf isDigit (take 2 s)) refl)

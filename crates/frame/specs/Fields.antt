@@ -1,5 +1,5 @@
 -- What is read at fixed positions of a line: a digit, a field, the kind, the line's end.
-use Prim.Native.Nat.{ℕ, _<_}
+use Prim.Native.Nat.{ℕ, _+_, _<_}
 use mathlib.Core.Path.{_≡_}
 use mathlib.Core.Bool.{Bool, true, cond, _&&_}
 use mathlib.Core.List.{List}
@@ -28,9 +28,13 @@ pub record FieldRead (s : List ℕ) (at r : ℕ) : Type 0 where
   pub tells : ltb r 65536 ≡ allOf isDigit (take 4 (drop at s))
   pub value : r < 65536 → r ≡ fieldAt at s
 
--- r is one of the kinds 1 to 4 exactly where two digits spell it
+-- the byte b spells the digit k, which is below 10
+abbrev pub spells : ℕ → ℕ → Bool
+spells b k = eqb b (48 + k)
+
+-- r spells one of the kinds 1 to 4 exactly where two digits do
 abbrev pub KindRead : List ℕ → ℕ → Type 0
-KindRead s r = (k : ℕ) → 0 < k → k < 5 → eqb r k ≡ (allOf isDigit (take 2 s) && eqb (kindOf s) k)
+KindRead s r = (k : ℕ) → 0 < k → k < 5 → spells r k ≡ (allOf isDigit (take 2 s) && eqb (kindOf s) k)
 
 -- byte 0A stands after n bytes
 abbrev pub endsAfter : ℕ → List ℕ → Bool

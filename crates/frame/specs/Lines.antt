@@ -100,13 +100,13 @@ six-digits : (l : List ℕ) → length l ≡ 6 → frameOfKind l ≡ cond (eqb (
 unfolding frameOfKind
 six-digits l e = rw e (simp (and-true, and-false))
 
--- by its kind and its two fields
-abbrev pub longFrame : ℕ → ℕ → ℕ → Option Table.Frame
+-- by a test of its kind, and its two fields
+abbrev pub longFrame : (ℕ → Bool) → ℕ → ℕ → Option Table.Frame
 longFrame kind first second =
-    cond (eqb kind 2) (some (jobFrame first second))
-    (cond (eqb kind 4) (some (soloFrame first second)) (cond (eqb kind 3) (some (endFrame first second)) none))
+    cond (kind 2) (some (jobFrame first second))
+    (cond (kind 4) (some (soloFrame first second)) (cond (kind 3) (some (endFrame first second)) none))
 
-ten-digits : (l : List ℕ) → length l ≡ 10 → frameOfKind l ≡ longFrame (kindOf l) (fieldAt 2 l) (fieldAt 6 l)
+ten-digits : (l : List ℕ) → length l ≡ 10 → frameOfKind l ≡ longFrame (eqb (kindOf l)) (fieldAt 2 l) (fieldAt 6 l)
 unfolding frameOfKind
 ten-digits l e = rw e (simp (and-true, and-false))
 
@@ -143,7 +143,7 @@ short-line s h =
     ∙ rw (kind-of-take 6 s (omega arith), field-of-take 2 4 s (omega arith))
 
 -- 10 digits and 0A: a job, a solo job, an end or no frame
-pub long-line : (s : List ℕ) → digitLine 10 s ≡ true → frameOf (firstLine s) ≡ longFrame (kindOf s) (fieldAt 2 s) (fieldAt 6 s)
+pub long-line : (s : List ℕ) → digitLine 10 s ≡ true → frameOf (firstLine s) ≡ longFrame (eqb (kindOf s)) (fieldAt 2 s) (fieldAt 6 s)
 long-line s h =
     digit-line-frame 10 s h
     ∙ ten-digits (take 10 s) (length-take-le 10 s (le-of-lt (digit-line-within 10 s h)))

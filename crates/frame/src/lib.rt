@@ -68,7 +68,7 @@ fn field(digits: &[u32; 256], s: &[u8], at: usize) -> u32
         + digit_value(digits, s[at + 3])
 }
 
-// The kind of a line, 1 to 4; any other number where it is unknown.
+// The byte of the digit that tells the kind of a line, 1 to 4, after digit 0; another byte where the kind is unknown.
 fn kind_of(s: &[u8]) -> u8
     requires { ⌜ 2 ≤ length (now s) ⌝ }
     ensures { λ r. ⌜ KindRead (now (s .entry)) r ⌝ }
@@ -76,10 +76,7 @@ fn kind_of(s: &[u8]) -> u8
     if s[0] != b'0' {
         return 0;
     }
-    if s[1] < b'0' {
-        return 0;
-    }
-    s[1] - b'0'
+    s[1]
 }
 
 // Byte 0A stands after n bytes.
@@ -111,7 +108,7 @@ fn short_frame(digits: &[u32; 256], s: &[u8], line: u16) -> FrameRead
     if WRONG_DIGIT <= parent {
         return no_frame(line);
     }
-    if kind_of(s) == 1 {
+    if kind_of(s) == b'1' {
         return FrameRead::Read(Frame::Layout(LayoutNumber(parent as u16)));
     }
     no_frame(line)
@@ -135,9 +132,9 @@ fn long_frame(digits: &[u32; 256], s: &[u8], line: u16) -> FrameRead
     let second = second as u16;
     let kind = kind_of(s);
     match kind {
-        2 => FrameRead::Read(Frame::Job(LayoutNumber(first), LayoutNumber(second))),
-        4 => FrameRead::Read(Frame::Solo(LayoutNumber(first), LayoutNumber(second))),
-        3 => FrameRead::Read(Frame::End(first as usize, second as usize)),
+        b'2' => FrameRead::Read(Frame::Job(LayoutNumber(first), LayoutNumber(second))),
+        b'4' => FrameRead::Read(Frame::Solo(LayoutNumber(first), LayoutNumber(second))),
+        b'3' => FrameRead::Read(Frame::End(first as usize, second as usize)),
         _ => no_frame(line),
     }
 }

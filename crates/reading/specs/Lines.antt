@@ -16,7 +16,7 @@ use Rattle.model.specs.Table.{lines, layoutFrame, jobFrame, soloFrame, endFrame
 use Rattle.model.specs.Table as Format
 use Rattle.frame.specs.Lines.{width, next-line, some-line}
 use Rattle.reading.specs.Unchecked.{halted, uncheckedContent, uncheckedVerdict, unlessStopped, uncheckedFrame, unchecked}
-use Rattle.reading.specs.Steps.{uncheckedFrom, frameAt, jobOf, LayoutFrame, JobFrame, EndFrame, FrameOutcome, StepOutcome}
+use Rattle.reading.specs.Steps.{uncheckedFrom, frameAt, endedAt, jobOf, LayoutFrame, JobFrame, EndFrame, FrameOutcome, StepOutcome}
 use Rattle.reading.specs.declared.Step.{Step}
 use Rattle.reading.specs.declared.Step.the-variants as step
 
@@ -65,9 +65,13 @@ job-width t b zero = refl
 job-width t b (suc mark) = refl
 
 -- after the end nothing is accepted
-pub after-end : (line : ℕ) (tb : Table) (f : Format.Frame) → uncheckedVerdict line tb true f ≡ refused 2 line
+after-end : (line : ℕ) (tb : Table) (f : Format.Frame) → uncheckedVerdict line tb true f ≡ refused 2 line
 unfolding uncheckedVerdict
 after-end line tb f = refl
+
+pub ended-late : (line : ℕ) (tb : Table) (f : Format.Frame) (ends : ℕ) → ends ≢ 0 → uncheckedVerdict line tb (endedAt ends) f ≡ refused 2 line
+ended-late line tb f zero h = absurd (h refl)
+ended-late line tb f (suc ends) h = after-end line tb f
 
 accepts-open : (line : ℕ) (tb : Table) (ended : Bool) (f : Format.Frame) → uncheckedVerdict line tb ended f ≡ accepted → ended ≡ false
 accepts-open line tb true f e = let late = after-end line tb f in let apart : _≡_ {A = ℕ} 0 1 = cc in absurd (omega arith)

@@ -8,7 +8,7 @@ use model::JobNumber;
 use model::LayoutNumber;
 use model::Refusal;
 ghost use mathlib.Core.Path.{_≡_};
-ghost use mathlib.Core.Bool.{false, cond};
+ghost use mathlib.Core.Bool.{cond};
 ghost use Prim.Native.Nat.{ℕ, _+_, _<_, _≤_};
 ghost use lib.ListN.{length};
 ghost use Rattle.model.specs.Verdict.{accepted, refused};
@@ -66,11 +66,14 @@ fn refuse(number: u16, p: Progress) -> Step
     })
 }
 
-// A layout: 2 after a job, 3 beyond the limit, 4 with a wrong parent.
+// A layout: 2 after the end or a job, 3 beyond the limit, 4 with a wrong parent.
 fn judge_layout(parent: LayoutNumber, p: Progress) -> Step
     requires { ⌜ Counted (p .layouts) (p .jobs) (p .ends) ⌝ }
-    ensures { λ r. ⌜ ((tb : Table) → length (tb .parents) ≡ p .layouts → length (tb .tops) ≡ p .jobs → FrameOutcome (p .layouts + p .jobs + p .ends + 1) tb false (layoutFrame (parent .0)) r) ⌝ }
+    ensures { λ r. ⌜ ((tb : Table) → length (tb .parents) ≡ p .layouts → length (tb .tops) ≡ p .jobs → FrameOutcome (p .layouts + p .jobs + p .ends + 1) tb (endedAt (p .ends)) (layoutFrame (parent .0)) r) ⌝ }
 {
+    if p.ends != 0 {
+        return refuse(2, p);
+    }
     if 0 < p.jobs {
         return refuse(2, p);
     }
@@ -83,12 +86,15 @@ fn judge_layout(parent: LayoutNumber, p: Progress) -> Step
     refuse(4, p)
 }
 
-// A job, or with mark 1 a solo job: 2 before any layout, 3 beyond the limit.
+// A job, or with mark 1 a solo job: 2 after the end or before any layout, 3 beyond the limit.
 fn judge_job(top: LayoutNumber, bottom: LayoutNumber, mark: usize, p: Progress) -> Step
     requires { ⌜ Counted (p .layouts) (p .jobs) (p .ends) ⌝ }
     requires { ⌜ mark ≤ 1 ⌝ }
-    ensures { λ r. ⌜ ((tb : Table) → length (tb .parents) ≡ p .layouts → length (tb .tops) ≡ p .jobs → FrameOutcome (p .layouts + p .jobs + p .ends + 1) tb false (jobOf (top .0) (bottom .0) mark) r) ⌝ }
+    ensures { λ r. ⌜ ((tb : Table) → length (tb .parents) ≡ p .layouts → length (tb .tops) ≡ p .jobs → FrameOutcome (p .layouts + p .jobs + p .ends + 1) tb (endedAt (p .ends)) (jobOf (top .0) (bottom .0) mark) r) ⌝ }
 {
+    if p.ends != 0 {
+        return refuse(2, p);
+    }
     if p.layouts == 0 {
         return refuse(2, p);
     }
@@ -98,11 +104,14 @@ fn judge_job(top: LayoutNumber, bottom: LayoutNumber, mark: usize, p: Progress) 
     Step::Job(top, bottom, mark)
 }
 
-// The end: 2 before any layout, 7 with wrong counts.
+// The end: 2 after an end or before any layout, 7 with wrong counts.
 fn judge_end(n: usize, m: usize, p: Progress) -> Step
     requires { ⌜ Counted (p .layouts) (p .jobs) (p .ends) ⌝ }
-    ensures { λ r. ⌜ ((tb : Table) → length (tb .parents) ≡ p .layouts → length (tb .tops) ≡ p .jobs → FrameOutcome (p .layouts + p .jobs + p .ends + 1) tb false (endFrame n m) r) ⌝ }
+    ensures { λ r. ⌜ ((tb : Table) → length (tb .parents) ≡ p .layouts → length (tb .tops) ≡ p .jobs → FrameOutcome (p .layouts + p .jobs + p .ends + 1) tb (endedAt (p .ends)) (endFrame n m) r) ⌝ }
 {
+    if p.ends != 0 {
+        return refuse(2, p);
+    }
     if p.layouts == 0 {
         return refuse(2, p);
     }
@@ -115,14 +124,11 @@ fn judge_end(n: usize, m: usize, p: Progress) -> Step
     Step::End
 }
 
-// A line by its frame; after the end nothing may stand.
+// A line by its frame.
 fn judge(line_frame: Frame, p: Progress) -> Step
     requires { ⌜ Counted (p .layouts) (p .jobs) (p .ends) ⌝ }
     ensures { λ r. ⌜ ((tb : Table) → length (tb .parents) ≡ p .layouts → length (tb .tops) ≡ p .jobs → FrameOutcome (p .layouts + p .jobs + p .ends + 1) tb (endedAt (p .ends)) (frameCase «line_frame») r) ⌝ }
 {
-    if p.ends != 0 {
-        return refuse(2, p);
-    }
     match line_frame {
         Frame::Job(t, b) => judge_job(t, b, 0, p),
         Frame::Solo(t, b) => judge_job(t, b, 1, p),

@@ -9,6 +9,7 @@ ghost use Rattle.model.specs.Jobs.{jobLimit};
 ghost use Rattle.model.specs.Visits.{visits};
 ghost use Rattle.sweep_laws.specs.SegmentTree.{SegmentTree, Clearable, Cleared, Insertable, Inserted, Removed, entriesIn, smallest, Searchable, Minimum};
 ghost use Rattle.laws.specs.Least.{leastOf};
+ghost use Rattle.sweep_laws.specs.Nodes.{Siblings};
 ghost use Rattle.sweep_laws.specs.NodeSpans.{nodeAt, Narrowable, Narrowed};
 ghost use Rattle.sweep_laws.specs.VisitCount.{levelsInside, levelsShared, Countable};
 ghost use Rattle.sweep_laws.specs.Levels.{ShapeFor};
@@ -90,6 +91,13 @@ pub fn insert(nodes: &mut [u16], shape: Shape, slot: usize, place: Rank)
     }
 }
 
+// The other node under the same parent.
+fn sibling(node: usize) -> usize
+    ensures { λ r. ⌜ Siblings r node ⌝ }
+{
+    node ^ 1
+}
+
 // Empties a slot: each node above it takes the smaller of what is left under it and its sibling's.
 pub fn remove(nodes: &mut [u16], shape: Shape, slot: usize)
     requires { ⌜ SegmentTree (shape .kept) (shape .width) (now nodes) ⌝ }
@@ -100,10 +108,9 @@ pub fn remove(nodes: &mut [u16], shape: Shape, slot: usize)
     let mut least = Rank(model::ABSENT);
     nodes[node] = least.0;
     while 2 * shape.kept <= node {
-        let above = node / 2;
-        least = smaller(least, Rank(nodes[4 * above + 1 - node]));
-        nodes[above] = least.0;
-        node = above;
+        least = smaller(least, Rank(nodes[sibling(node)]));
+        node /= 2;
+        nodes[node] = least.0;
     }
 }
 

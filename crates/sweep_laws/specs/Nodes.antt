@@ -141,18 +141,22 @@ pub record Removing (kept width : ℕ) (old new : List ℕ) (node least : ℕ) :
   pub least-is : least ≡ getD new node 0
   pub inner : (n : ℕ) → kept ≤ n → n < width → n ≢ node / 2 → getD new n 0 ≡ min (getD new (2 * n) 0) (getD new (2 * n + 1) 0)
 
+-- a and b are the two nodes under one parent
+abbrev pub Siblings : ℕ → ℕ → Type 0
+Siblings a b = a + b ≡ 4 * (b / 2) + 1
+
 -- the smaller of a node and its sibling
-pub siblings : (new : List ℕ) (node : ℕ) → min (getD new node 0) (getD new (4 * (node / 2) + 1 - node) 0) ≡ min (getD new (2 * (node / 2)) 0) (getD new (2 * (node / 2) + 1) 0)
-siblings new node = elim (ℕ-discrete node (2 * (node / 2))) [
+siblings : (new : List ℕ) (node sibling : ℕ) → Siblings sibling node → min (getD new node 0) (getD new sibling 0) ≡ min (getD new (2 * (node / 2)) 0) (getD new (2 * (node / 2) + 1) 0)
+siblings new node sibling beside = elim (ℕ-discrete node (2 * (node / 2))) [
   | yes even ↦
-      let sibling : 4 * (node / 2) + 1 - node ≡ 2 * (node / 2) + 1 = omega arith in
+      let other : sibling ≡ 2 * (node / 2) + 1 = omega arith in
       let at : getD new node 0 ≡ getD new (2 * (node / 2)) 0 = ap (λ (n : ℕ). getD new n 0) even in
-      rw sibling (omega arith)
+      rw other (omega arith)
   | no odd ↦
       let is : node ≡ 2 * (node / 2) + 1 = omega arith in
-      let sibling : 4 * (node / 2) + 1 - node ≡ 2 * (node / 2) = omega arith in
+      let other : sibling ≡ 2 * (node / 2) = omega arith in
       let at : getD new node 0 ≡ getD new (2 * (node / 2) + 1) 0 = ap (λ (n : ℕ). getD new n 0) is in
-      rw sibling (omega arith)
+      rw other (omega arith)
 ]
 
 module _ (kept width : ℕ) (cells : List ℕ) (slot : ℕ) (s : SegmentTree kept width cells) (inside : slot < width) where
@@ -177,12 +181,12 @@ module _ (kept width : ℕ) (cells : List ℕ) (slot : ℕ) (s : SegmentTree kep
       }
 
 -- the parent takes the smaller of the node and its sibling
-pub removing-step : (kept width : ℕ) (old new : List ℕ) (node least v : ℕ) → 2 * kept ≤ node → v ≡ min least (getD new (4 * (node / 2) + 1 - node) 0) → Removing kept width old new node least → Removing kept width old (set new (node / 2) v) (node / 2) v
-removing-step kept width old new node least v h v-is r =
+pub removing-step : (kept width : ℕ) (old new : List ℕ) (node least sibling v : ℕ) → 2 * kept ≤ node → Siblings sibling node → v ≡ min least (getD new sibling 0) → Removing kept width old new node least → Removing kept width old (set new (node / 2) v) (node / 2) v
+removing-step kept width old new node least sibling v h beside v-is r =
     let m : ℕ = node / 2 in
     let below : m < width = omega (arith, r .within) in
     let inside : m < length new = omega (arith, r .stored .room) in
-    let both : v ≡ min (getD new (2 * m) 0) (getD new (2 * m + 1) 0) = v-is ∙ ap (λ (x : ℕ). min x (getD new (4 * m + 1 - node) 0)) (r .least-is) ∙ siblings new node in
+    let both : v ≡ min (getD new (2 * m) 0) (getD new (2 * m + 1) 0) = v-is ∙ ap (λ (x : ℕ). min x (getD new sibling 0)) (r .least-is) ∙ siblings new node sibling beside in
     record {
       stored = stored-node kept width old new m v below (r .stored);
       from-kept = omega arith;

@@ -4,6 +4,7 @@ use native.Mathlib.Omega.{arith}
 use borrow.Author.Tests.{ne-eqb}
 use borrow.Author.Needs.{needs}
 use Rattle.model.specs.Table.{firstLine, frameOf}
+use Rattle.frame.specs.Fields.{spells}
 use Rattle.frame.specs.Lines.{longFrame}
 use Rattle.frame.proofs.Frames.{ends-within, first-wrong, second-wrong, long-right}
 use Rattle.frame.proofs.long_frame.Statement.{statement}
@@ -12,7 +13,7 @@ use Rattle.frame.proofs.long_frame.Tie as tie
 -- the line's frame, by the kind and the fields that were read
 frame-of : (c : tie.After-kind-of)
     → frameOf (firstLine (c .before .before .before .before .before .before .args .s .now))
-    ≡ longFrame (c .kind-of .result) (c .before .before .before .before .field .result) (c .before .before .before .field2 .result)
+    ≡ longFrame (spells (c .kind-of .result)) (c .before .before .before .before .field .result) (c .before .before .before .field2 .result)
 frame-of c =
     let start = c .before .before .before .before .before .before in
     let f = c .before .before .before .before .field in
@@ -81,7 +82,7 @@ returns-6 : tie.Need-returns-6
 returns-6 c =
     let kind = c .before .before .kind-of .result in
     let other = c .before .match .rest in
-    rw (c .no-frame3 .ensures, frame-of (c .before .before), ne-eqb kind 2 (other .0 .0 .1), ne-eqb kind 4 (other .0 .1), ne-eqb kind 3 (other .1))
+    rw (c .no-frame3 .ensures, frame-of (c .before .before), ne-eqb kind 50 (other .0 .0 .1), ne-eqb kind 52 (other .0 .1), ne-eqb kind 51 (other .1))
 
 pub long-frame-spec : {M : Type 1} → statement M
 long-frame-spec =

@@ -42,7 +42,7 @@ returns-3 c =
     let f = c .before .before .before .before .field in
     let k = c .before .before .kind-of in
     let frame = short-right (start .args .s .now) (start .pre .1) (f .result) (f .ensures) (c .before .before .before .if1 .left) (k .result) (k .ensures) in
-    rw (c .no-frame2 .ensures, frame, ne-eqb (k .result) 1 (c .before .if2 .left))
+    rw (c .no-frame2 .ensures, frame, ne-eqb (k .result) 49 (c .before .if2 .left))
 
 pub short-frame-spec : {M : Type 1} → statement M
 short-frame-spec =

@@ -1,34 +1,19 @@
 -- `reading::judge` meets its contract: each kind of frame has its own verdict.
-use mathlib.Core.Path.{_≡_, refl, sym, subst}
-use Prim.Native.Nat.{ℕ, zero, suc}
+use mathlib.Core.Path.{_≡_, sym, subst}
+use Prim.Native.Nat.{ℕ}
 use mathlib.Core.Bool.{Bool}
-use Rattle.model.specs.Verdict.{refused}
 use Rattle.model.specs.Jobs.{Table}
 use Rattle.model.specs.Answers.{frameCase}
-use Rattle.model.specs.Table as Format
 use Rattle.model.specs.declared.Frame.{Frame}
 use Rattle.reading.specs.declared.Step.{Step}
-use Rattle.reading.specs.Unchecked.{uncheckedVerdict}
-use Rattle.reading.specs.Steps.{endedAt, FrameOutcome}
-use Rattle.reading.specs.Lines.{after-end}
+use Rattle.reading.specs.Steps.{FrameOutcome}
 use borrow.Author.Needs.{needs}
 use Rattle.reading.proofs.judge.Statement.{statement}
 use Rattle.reading.proofs.judge.Tie as tie
 
--- an end was read
-ended-late : (line : ℕ) (tb : Table) (f : Format.Frame) (ends : ℕ) → (ends ≡ 0 → ⊥) → uncheckedVerdict line tb (endedAt ends) f ≡ refused 2 line
-ended-late line tb f zero h = absurd (h refl)
-ended-late line tb f (suc ends) h = after-end line tb f
-
--- none was: the outcome for the frame that was read, from that for the frame that it is
-as-read : (line : ℕ) (tb : Table) (ends : ℕ) → ends ≡ 0 → (r : Step) {f g : Frame} → f ≡ g → FrameOutcome line tb (endedAt 0) (frameCase g) r → FrameOutcome line tb (endedAt ends) (frameCase f) r
-as-read line tb ends z r e o = rw z (subst (λ (h : Frame). FrameOutcome line tb (endedAt 0) (frameCase h) r) (sym e) o)
-
-refuse-requires : tie.Need-refuse-requires
-refuse-requires c κs = search needs
-
-returns : tie.Need-returns
-returns c = λ tb n m. rw (c .refuse .ensures) (ended-late _ tb _ _ (c .before .if1 .taken))
+-- the outcome for the frame that was read, from that for the frame that it is
+as-read : (line : ℕ) (tb : Table) (ended : Bool) (r : Step) {f g : Frame} → f ≡ g → FrameOutcome line tb ended (frameCase g) r → FrameOutcome line tb ended (frameCase f) r
+as-read line tb ended r e o = subst (λ (h : Frame). FrameOutcome line tb ended (frameCase h) r) (sym e) o
 
 enum-known-line-frame : tie.Need-enum-known-line-frame
 enum-known-line-frame c = search needs
@@ -54,24 +39,22 @@ enum-known-line-frame-4 c = search needs
 judge-end-requires : tie.Need-judge-end-requires
 judge-end-requires c κs = search needs
 
+returns : tie.Need-returns
+returns c = λ tb n m. as-read _ tb _ (c .judge-job .result) (c .before .before .line-frame .given .1) (c .judge-job .ensures tb n m)
+
 returns-2 : tie.Need-returns-2
-returns-2 c = λ tb n m. as-read _ tb _ (c .before .before .before .before .if1 .left) (c .judge-job .result) (c .before .before .line-frame .given .1) (c .judge-job .ensures tb n m)
+returns-2 c = λ tb n m. as-read _ tb _ (c .judge-job2 .result) (c .before .before .line-frame2 .given .1) (c .judge-job2 .ensures tb n m)
 
 returns-3 : tie.Need-returns-3
-returns-3 c = λ tb n m. as-read _ tb _ (c .before .before .before .before .if1 .left) (c .judge-job2 .result) (c .before .before .line-frame2 .given .1) (c .judge-job2 .ensures tb n m)
+returns-3 c = λ tb n m. as-read _ tb _ (c .judge-layout .result) (c .before .before .line-frame3 .given .1) (c .judge-layout .ensures tb n m)
 
 returns-4 : tie.Need-returns-4
-returns-4 c = λ tb n m. as-read _ tb _ (c .before .before .before .before .if1 .left) (c .judge-layout .result) (c .before .before .line-frame3 .given .1) (c .judge-layout .ensures tb n m)
-
-returns-5 : tie.Need-returns-5
-returns-5 c = λ tb n m. as-read _ tb _ (c .before .before .before .before .if1 .left) (c .judge-end .result) (c .before .before .line-frame4 .given .1) (c .judge-end .ensures tb n m)
+returns-4 c = λ tb n m. as-read _ tb _ (c .judge-end .result) (c .before .before .line-frame4 .given .1) (c .judge-end .ensures tb n m)
 
 pub judge-spec : {M : Type 1} → statement M
 judge-spec =
     tie.close
     (tie.spec
-    refuse-requires
-    returns
     enum-known-line-frame
     judge-job-requires
     enum-known-line-frame-2
@@ -80,7 +63,7 @@ judge-spec =
     judge-layout-requires
     enum-known-line-frame-4
     judge-end-requires
+    returns
     returns-2
     returns-3
-    returns-4
-    returns-5)
+    returns-4)

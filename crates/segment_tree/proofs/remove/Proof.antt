@@ -28,20 +28,14 @@ loop-holds c = removing-slot _ _ _ _ (c .before .before .pre .0) (c .before .bef
 mul-if1 : tie.Need-mul-if1 Inv-loop μ-loop
 mul-if1 c = omega arith
 
-mul-t9 : tie.Need-mul-t9 Inv-loop μ-loop
-mul-t9 c = omega arith
+sibling-requires : tie.Need-sibling-requires Inv-loop μ-loop
+sibling-requires c κs = search needs
 
-add-t11 : tie.Need-add-t11 Inv-loop μ-loop
-add-t11 c = omega arith
+mul-t10 : tie.Need-mul-t10 Inv-loop μ-loop
+mul-t10 c = omega (arith, c .sibling .ensures)
 
-sub-t12 : tie.Need-sub-t12 Inv-loop μ-loop
-sub-t12 c = omega arith
-
-mul-t13 : tie.Need-mul-t13 Inv-loop μ-loop
-mul-t13 c = omega arith
-
-slice-read-t15 : tie.Need-slice-read-t15 Inv-loop μ-loop
-slice-read-t15 c = omega arith
+slice-read-t12 : tie.Need-slice-read-t12 Inv-loop μ-loop
+slice-read-t12 c = omega (arith, c .before .sibling .ensures)
 
 smaller-requires : tie.Need-smaller-requires Inv-loop μ-loop
 smaller-requires c κs = search needs
@@ -56,7 +50,7 @@ loop-less : tie.Need-loop-less Inv-loop μ-loop
 loop-less c = omega arith
 
 loop-again : tie.Need-loop-again Inv-loop μ-loop
-loop-again c = removing-step _ _ _ _ _ _ _ (c .before .before .if1 .taken) (c .smaller .ensures) (c .before .before .before .before .loop .inv)
+loop-again c = removing-step _ _ _ _ _ _ _ _ (c .before .before .before .if1 .taken) (c .before .before .sibling .ensures) (c .smaller .ensures) (c .before .before .before .before .before .loop .inv)
 
 same-length : tie.Need-same-length Inv-loop μ-loop
 same-length c = c .before .before .loop .inv .stored .same ∙ simp length-set
@@ -75,11 +69,9 @@ remove-spec =
     slice-write-nodes
     loop-holds
     mul-if1
-    mul-t9
-    add-t11
-    sub-t12
-    mul-t13
-    slice-read-t15
+    sibling-requires
+    mul-t10
+    slice-read-t12
     smaller-requires
     mul-nodes-2
     slice-write-nodes-2
