@@ -5,13 +5,14 @@ use model::Rank;
 ghost use mathlib.Core.Path.{_≡_};
 ghost use Prim.Native.Nat.{_-_, _<_, _≤_, min, max};
 ghost use lib.ListN.{length};
+ghost use lib.Count.{trailingZeros};
 ghost use Rattle.model.specs.Jobs.{jobLimit};
 ghost use Rattle.model.specs.Visits.{visits};
 ghost use Rattle.sweep_laws.specs.SegmentTree.{SegmentTree, Clearable, Cleared, Insertable, Inserted, Removed, entriesIn, smallest, Searchable, Minimum};
 ghost use Rattle.laws.specs.Least.{leastOf};
 ghost use Rattle.sweep_laws.specs.Nodes.{Siblings};
 ghost use Rattle.sweep_laws.specs.NodeSpans.{nodeAt, Narrowable, Narrowed};
-ghost use Rattle.sweep_laws.specs.VisitCount.{levelsInside, levelsShared, Countable};
+ghost use Rattle.sweep_laws.specs.VisitCount.{levelsInside, levelsApart, Countable};
 ghost use Rattle.sweep_laws.specs.Levels.{ShapeFor};
 
 // The measures of a tree: it has `width`, that is 2 ^ levels, slots, and the nodes from `kept` on. They are found by doubling, so that a compiler takes
@@ -114,18 +115,7 @@ pub fn remove(nodes: &mut [u16], shape: Shape, slot: usize)
     }
 }
 
-// How many levels have a node with x strictly inside: x is a border of a node as long as its trailing zeros last.
-fn levels_inside(levels: usize, x: usize) -> usize
-    ensures { λ r. ⌜ r ≡ levelsInside 0 levels x ⌝ }
-{
-    let zeros = usize::trailing_zeros(x) as usize;
-    if levels <= zeros {
-        return 0;
-    }
-    levels - zeros
-}
-
-// The larger of two numbers of levels.
+// The larger and the smaller of two numbers of levels.
 fn larger(a: usize, b: usize) -> usize
     ensures { λ r. ⌜ r ≡ max a b ⌝ }
 {
@@ -135,32 +125,42 @@ fn larger(a: usize, b: usize) -> usize
     a
 }
 
-// How many levels have a node with both ends strictly inside: those above the highest digit in which the ends differ, as there both lie in one node, and past
-// the trailing zeros of the left one.
-fn levels_shared(levels: usize, left: usize, right: usize) -> usize
-    requires { ⌜ left < right ⌝ }
-    ensures { λ r. ⌜ r ≡ levelsShared levels left right ⌝ }
+fn lesser(a: usize, b: usize) -> usize
+    ensures { λ r. ⌜ r ≡ min a b ⌝ }
 {
-    let digit = 63 - usize::leading_zeros(left ^ right) as usize;
-    let zeros = usize::trailing_zeros(left) as usize;
-    let below = larger(digit, zeros);
-    if levels <= below {
-        return 0;
+    if a < b {
+        return a;
     }
-    levels - below
+    b
+}
+
+// How many levels have a node with x strictly inside: x is a border of a node as long as its trailing zeros last.
+fn levels_inside(levels: usize, x: usize) -> usize
+    requires { ⌜ trailingZeros 64 x ≤ levels ⌝ }
+    ensures { λ r. ⌜ r ≡ levelsInside 0 levels x ⌝ }
+{
+    levels - usize::trailing_zeros(x) as usize
+}
+
+// How many levels have a node with `from` strictly inside and `to` in another one: those past the trailing zeros of `from`, up to the highest digit in which the
+// two differ, as above it both lie in one node.
+fn levels_apart(levels: usize, from: usize, to: usize) -> usize
+    requires { ⌜ from < to ⌝ }
+    ensures { λ r. ⌜ r ≡ levelsApart levels from to ⌝ }
+{
+    let digit = 63 - usize::leading_zeros(from ^ to) as usize;
+    let zeros = lesser(levels, usize::trailing_zeros(from) as usize);
+    larger(digit, zeros) - zeros
 }
 
 // How many nodes document 01 counts for a lookup of the slots from `from` up to `to`, which are not none: the topmost, and two for each node with an end strictly
 // inside.
-fn count_visits(shape: Shape, from: usize, to: usize) -> u32
-    requires { ⌜ Countable (shape .levels) (shape .width) from to ⌝ }
-    ensures { λ r. ⌜ r ≡ visits (shape .levels) from to ⌝ }
+fn count_visits(levels: usize, from: usize, to: usize) -> u32
+    requires { ⌜ Countable levels from to ⌝ }
+    ensures { λ r. ⌜ r ≡ visits levels from to ⌝ }
 {
-    let left = shape.width + from;
-    let right = shape.width + to;
-    let ends = levels_inside(shape.levels, left) + levels_inside(shape.levels, right);
-    let shared = levels_shared(shape.levels, left, right);
-    (1 + 2 * (ends - shared)) as u32
+    let inside = levels_inside(levels, to) + levels_apart(levels, from, to);
+    (1 + 2 * inside) as u32
 }
 
 // Part of a search: what is left of a span, with the smallest place taken in so far.
@@ -237,7 +237,7 @@ pub fn lookup(
             visits: 1,
         };
     }
-    let visits = count_visits(shape, from, to);
+    let visits = count_visits(shape.levels, from, to);
     if from <= slot && slot < to {
         if first.equals(Rank(nodes[shape.width + slot])) {
             return Found {

@@ -2,15 +2,16 @@
 use Prim.Native.Nat.{ℕ, zero, suc, _+_, _-_, _*_, _/_, _%_, _^_, _<_, _≤_, min, max}
 use mathlib.Core.Path.{_≡_, refl, sym, ap, _∙_}
 use mathlib.Core.Logic.{_⊎_, inl, inr, ⊎-elim}
-use native.Mathlib.Nat.{two-pow-succ, eq-zero-or-pos}
+use native.Mathlib.Nat.{two-pow-succ, eq-zero-or-pos, sub-zero}
 use native.Mathlib.Omega.{arith}
-use native.Mathlib.Decide.{ℕ-discrete}
+use native.Mathlib.Decide.{ℕ-discrete, decLe, decLt}
 use lib.Arith.{bin-ind}
+use lib.Pow.{pow-mono, pow-pos}
 use lib.Bits.{bitXor, xor-step, xor-lt, differ}
 use lib.Count.{leadingZeros, trailingZeros, leading-top}
 use Rattle.model.specs.Visits.{visits}
-use Rattle.sweep_laws.specs.VisitCount.{levelsInside, levelsShared}
-use Rattle.sweep_laws.specs.VisitLevels.{up, down, zeros-even, zeros-odd, zeros-within, inside-small, visits-met}
+use Rattle.sweep_laws.specs.VisitCount.{levelsInside, levelsShared, levelsApart, Countable}
+use Rattle.sweep_laws.specs.VisitLevels.{up, down, zeros-even, zeros-odd, zeros-within, visits-met}
 
 -- ---- digits that differ
 
@@ -145,18 +146,54 @@ module _ (k left right : ℕ) (order : left < right) (fits : right < 2 ^ 64) (fe
 
 -- ---- the visits
 
--- the visits of a lookup for a span that is not empty, by its ends among the nodes of the slots
-pub record VisitsShared (k from to left right : ℕ) : Type 0 where
-  pub twice : levelsShared k left right ≤ levelsInside 0 k left + levelsInside 0 k right
-  pub small : levelsInside 0 k left + levelsInside 0 k right ≤ 2 * k
-  pub visits-are : 1 + 2 * (levelsInside 0 k left + levelsInside 0 k right - levelsShared k left right) ≡ visits k from to
+-- a number up to 2 ^ k, not 0, has at most k trailing zeros
+zeros-small : (i k x : ℕ) → 0 < x → x ≤ 2 ^ k → trailingZeros i x ≤ k
+unfolding trailingZeros
+zeros-small zero k x some top = omega arith
+zeros-small (suc i) zero x some top = let one : x % 2 ≡ 1 = omega arith in rw (zeros-odd i x one) (omega arith)
+zeros-small (suc i) (suc k) x some top = elim (ℕ-discrete (x % 2) 0) [
+  | yes even ↦ omega (arith, zeros-even i x even, zeros-small i k (x / 2) (omega arith) (omega (arith, two-pow-succ k)))
+  | no odd ↦ let one : x % 2 ≡ 1 = omega arith in rw (zeros-odd i x one) (omega arith)
+]
 
-pub visits-shared : (k from to left right : ℕ) → k ≤ 64 → from < to → to ≤ 2 ^ k → left ≡ 2 ^ k + from → right ≡ 2 ^ k + to → right < 2 ^ 64 → VisitsShared k from to left right
-visits-shared k from to left right few order top l r fits =
-    let m = met k left right (omega arith) fits few in
-    let v = visits-met k from to left right (m .level) (m .node) few order top l r (m .left-up) (m .right-down) in
+-- of the levels above z those above d as well, and the others
+levels-parted : (k z d : ℕ) → d ≤ k → k - z ≡ (k - max d z) + (max d (min k z) - min k z)
+levels-parted k z d h = elim (decLe k z) [
+  | yes none ↦ let least : min k z ≡ k = omega arith in let most : max d k ≡ k = omega arith in rw (least, most) (omega arith)
+  | no some ↦ let least : min k z ≡ z = omega arith in rw least (omega arith)
+]
+
+-- the levels with the left end strictly inside a cell: with the right one in the same, and in another
+left-levels : (k from to : ℕ) → 63 - leadingZeros 64 (bitXor from to) ≤ k → levelsInside 0 k from ≡ levelsShared k from to + levelsApart k from to
+unfolding levelsInside levelsShared levelsApart
+left-levels k from to h = rw (sub-zero k) (levels-parted k (trailingZeros 64 from) (63 - leadingZeros 64 (bitXor from to)) h)
+
+pub inside-few : (k x : ℕ) → levelsInside 0 k x ≤ k
+unfolding levelsInside
+inside-few k x = omega arith
+
+-- the visits of a lookup for a span that is not empty: two for each cell with its right end strictly inside, and two for each with its left one inside and the right
+-- one in another cell
+pub record VisitsCounted (k from to : ℕ) : Type 0 where
+  pub right-zeros : trailingZeros 64 to ≤ k
+  pub left-few : levelsApart k from to ≤ k
+  pub visits-are : 1 + 2 * (levelsInside 0 k to + levelsApart k from to) ≡ visits k from to
+
+pub visits-counted : (k from to : ℕ) → Countable k from to → VisitsCounted k from to
+visits-counted k from to c =
+    let one : 2 ^ suc k ≡ 2 ^ k + 2 ^ k = two-pow-succ k in
+    let fits : 2 ^ suc k ≤ 2 ^ 64 = pow-mono {i = suc k} {j = 64} (omega (arith, c .few)) in
+    let small : to < 2 ^ suc k = omega (arith, c .inside, pow-pos k) in
+    let m = met k from to (c .some) (omega arith) (omega (arith, c .few)) in
+    let v = visits-met k from to (m .level) (m .node) (omega (arith, c .few)) (c .some) (c .inside) (m .left-up) (m .right-down) in
+    let t = leading-top 64 (bitXor from to) (some k from to (c .some) (omega arith) (omega (arith, c .few))) (xor-lt 64 from to (omega (arith, c .some)) (omega arith)) in
+    let within : t .0 ≤ k = elim (decLt k (t .0)) [
+      | yes more ↦ absurd (omega (arith, pow-mono {i = suc k} {j = t .0} (omega arith), t .2, xor-lt (suc k) from to (omega (arith, c .some)) small))
+      | no less ↦ omega arith
+    ] in
+    let left = left-levels k from to (omega (arith, t .1)) in
     record {
-      twice = omega (arith, v .twice, m .shared);
-      small = v .small;
-      visits-are = rw (m .shared) at (v .visits-are);
+      right-zeros = zeros-small 64 k to (omega (arith, c .some)) (c .inside);
+      left-few = omega (arith, left, inside-few k from);
+      visits-are = omega (arith, left, m .shared, v);
     }

@@ -1,6 +1,6 @@
 -- How a lookup counts the cells that it visits without going down to them: an end of the span lies strictly inside a cell of a level exactly if the cells'
 -- width does not divide it.
-use Prim.Native.Nat.{ℕ, _-_, _*_, _^_, _<_, _≤_, max}
+use Prim.Native.Nat.{ℕ, _-_, _^_, _<_, _≤_, min, max}
 use mathlib.Core.Path.{_≡_}
 use lib.Bits.{bitXor}
 use lib.Count.{leadingZeros, trailingZeros}
@@ -14,9 +14,13 @@ levelsInside below levels x = levels - below - trailingZeros 64 x
 unfoldable pub levelsShared : ℕ → ℕ → ℕ → ℕ
 levelsShared levels x y = levels - max (63 - leadingZeros 64 (bitXor x y)) (trailingZeros 64 x)
 
+-- how many levels have a cell with x strictly inside and y in another, for x < y: those past the trailing zeros of x, up to the highest digit in which the two
+-- differ
+unfoldable pub levelsApart : ℕ → ℕ → ℕ → ℕ
+levelsApart levels x y = max (63 - leadingZeros 64 (bitXor x y)) (min levels (trailingZeros 64 x)) - min levels (trailingZeros 64 x)
+
 -- a span of slots, not empty, whose visits are to be counted
-pub record Countable (levels width from to : ℕ) : Type 0 where
-  pub power : width ≡ 2 ^ levels
+pub record Countable (levels from to : ℕ) : Type 0 where
+  pub few : levels < 63
   pub some : from < to
-  pub inside : to ≤ width
-  pub fits : 2 * width < 2 ^ 64
+  pub inside : to ≤ 2 ^ levels

@@ -3,7 +3,7 @@
 use Prim.Native.Nat.{ℕ, zero, suc, _+_, _-_, _*_, _/_, _%_, _^_, _<_, _≤_, min}
 use mathlib.Core.Path.{_≡_, refl, sym, _∙_}
 use mathlib.Core.Logic.{inl, inr}
-use native.Mathlib.Nat.{add-assoc, add-zero, add-suc, sub-zero, zero-add, two-pow-succ, mul-add, add-mul, two-mul, one-mul, mul-one, pow-zero}
+use native.Mathlib.Nat.{add-zero, add-suc, sub-zero, zero-add, zero-mul, two-pow-succ, mul-add, add-mul, two-mul, one-mul, mul-one, pow-zero}
 use native.Mathlib.Omega.{arith}
 use native.Mathlib.Decide.{ℕ-discrete, decLe, decLt}
 use lib.Dec.{leb}
@@ -277,29 +277,11 @@ visits-both (suc k) n start from to at h a b =
       ]
     ]
 
--- ---- from slots to the nodes that stand for them
-
-shift-leb : (d a b : ℕ) → leb (d + a) (d + b) ≡ leb a b
-shift-leb d a b = elim (decLe a b) [
-  | yes le ↦ rw (le-leb a b le, le-leb (d + a) (d + b) (omega arith))
-  | no gt ↦ rw (lt-leb a b (omega arith), lt-leb (d + a) (d + b) (omega arith))
-]
-
-shift-visits : (k d start from to : ℕ) → cellVisits k (d + start) (d + from) (d + to) ≡ cellVisits k start from to
-unfolding cellVisits
-shift-visits zero d start from to = refl
-shift-visits (suc k) d start from to =
-    rw (add-assoc d start (2 ^ suc k), add-assoc d start (2 ^ k), shift-leb d from start, shift-leb d (start + 2 ^ suc k) to, shift-leb d to start, shift-leb d (start + 2 ^ suc k) from, shift-visits k d start from to, shift-visits k d (start + 2 ^ k) from to)
-
 -- the visits of a lookup for a span that is not empty: the topmost cell, and two for each cell that has an end strictly inside
-pub visits-splits : (k from to : ℕ) → from < to → to ≤ 2 ^ k → visits k from to ≡ 1 + 2 * splits k (2 ^ k + from) (2 ^ k + to)
+pub visits-splits : (k from to : ℕ) → from < to → to ≤ 2 ^ k → visits k from to ≡ 1 + 2 * splits k from to
 unfolding visits
 visits-splits k from to h top =
-    rw (lt-leb to from h)
-    (sym (shift-visits k (2 ^ k) 0 from to)
-    ∙ visits-both k 1 (2 ^ k + 0) (2 ^ k + from) (2 ^ k + to) (rw (one-mul (2 ^ k), add-zero (2 ^ k))) (omega arith)
-    (ge-down k (2 ^ k + from) 1 (rw (one-mul (2 ^ k)) (omega arith)))
-    (le-up k (2 ^ k + to) 2 (rw (two-mul (2 ^ k)) (omega arith))))
+    rw (lt-leb to from h) (visits-both k 0 0 from to (sym (zero-mul (2 ^ k))) h (omega arith) (le-up k to 1 (rw (one-mul (2 ^ k)) top)))
 
 -- ---- counting by trailing zeros
 
@@ -400,23 +382,9 @@ inside-levels below k x h = omega (arith, zeros-within (k - below) 64 x (omega a
 inside-all : (k x : ℕ) → k ≤ 64 → count k x ≡ levelsInside 0 k x
 inside-all k x h = count-zeros x k ∙ rw (sub-zero k) at (inside-levels 0 k x h)
 
-pub inside-small : (k x : ℕ) → levelsInside 0 k x ≤ k
-unfolding levelsInside
-inside-small k x = omega arith
-
--- the visits, where the ends meet at a node of some level on the way up
-pub record VisitsMet (k from to left right level node : ℕ) : Type 0 where
-  pub twice : levelsInside level k node ≤ levelsInside 0 k left + levelsInside 0 k right
-  pub small : levelsInside 0 k left + levelsInside 0 k right ≤ 2 * k
-  pub visits-are : 1 + 2 * (levelsInside 0 k left + levelsInside 0 k right - levelsInside level k node) ≡ visits k from to
-
-pub visits-met : (k from to left right level node : ℕ) → k ≤ 64 → from < to → to ≤ 2 ^ k → left ≡ 2 ^ k + from → right ≡ 2 ^ k + to → node ≡ up level left → node ≡ down level right → VisitsMet k from to left right level node
-visits-met k from to left right level node fits h top l r a b =
-    let same : splits k (2 ^ k + from) (2 ^ k + to) ≡ splits k left right = rw (l, r) in
-    let met : splits k left right + levelsInside level k node ≡ count k left + count k right = rw (inside-levels level k node fits) at (splits-met left right (omega arith) k level node a b) in
-    let ends : splits k left right + levelsInside level k node ≡ levelsInside 0 k left + levelsInside 0 k right = omega (arith, inside-all k left fits, inside-all k right fits) in
-    record {
-      twice = omega (arith, ends);
-      small = omega (arith, inside-small k left, inside-small k right);
-      visits-are = omega (arith, ends, same, visits-splits k from to h top);
-    }
+-- the visits, where the ends meet at a border of some level
+pub visits-met : (k from to level node : ℕ) → k ≤ 64 → from < to → to ≤ 2 ^ k → node ≡ up level from → node ≡ down level to → 1 + 2 * (levelsInside 0 k from + levelsInside 0 k to - levelsInside level k node) ≡ visits k from to
+visits-met k from to level node fits h top a b =
+    let met : splits k from to + levelsInside level k node ≡ count k from + count k to = rw (inside-levels level k node fits) at (splits-met from to (omega arith) k level node a b) in
+    let ends : splits k from to + levelsInside level k node ≡ levelsInside 0 k from + levelsInside 0 k to = omega (arith, inside-all k from fits, inside-all k to fits) in
+    omega (arith, ends, visits-splits k from to h top)

@@ -1,73 +1,44 @@
--- The nodes with an end strictly inside are those with the left one inside and those with the right one, less those with both.
-use borrow.Author.Needs.{needs}
+-- The nodes with an end strictly inside are those with the right one inside, and those with the left one inside and the right one in another.
+use Prim.Native.Nat.{_<_}
 use native.Mathlib.Omega.{arith}
-use mathlib.Core.Path.{ap, sym, _∙_}
-use Prim.Native.Nat.{ℕ, _+_}
-use Rattle.sweep_laws.specs.Levels.{levels-fit}
-use Rattle.sweep_laws.specs.SharedLevels.{VisitsShared, visits-shared}
+use Rattle.sweep_laws.specs.SharedLevels.{visits-counted, inside-few}
 use Rattle.segment_tree.proofs.count_visits.Statement.{statement}
 use Rattle.segment_tree.proofs.count_visits.Tie as tie
 
--- the visits by the ends
-counted : (c : tie.After-struct-known) →
-    let start = c .before in
-    VisitsShared (start .args .shape .levels) (start .args .from) (start .args .to) (start .args .shape .width + start .args .from) (start .args .shape .width + start .args .to)
-counted c =
-    let n = c .before .pre in
-    visits-shared _ _ _ _ _ (omega (arith, levels-fit _ _ _ (n .power) (omega arith) (n .fits))) (n .some) (omega (arith, n .power, n .inside)) (ap (λ (w : ℕ). w + c .before .args .from) (n .power)) (ap (λ (w : ℕ). w + c .before .args .to) (n .power)) (omega (arith, n .inside, n .fits))
-
-add-left : tie.Need-add-left
-add-left c = let n = c .before .pre in omega (arith, n .some, n .inside, n .fits)
-
-add-right : tie.Need-add-right
-add-right c = let n = c .before .before .pre in omega (arith, n .inside, n .fits)
+-- both counts are of fewer levels than a number has digits
+few-levels : (c : tie.After-levels-apart) → (c .before .levels-inside .result < 63) × (c .levels-apart .result < 63)
+few-levels c =
+    let n = c .before .before .pre in
+    omega (arith, visits-counted _ _ _ n .left-few, inside-few (c .before .before .args .levels) (c .before .before .args .to), c .before .levels-inside .ensures, c .levels-apart .ensures, n .few)
 
 levels-inside-requires : tie.Need-levels-inside-requires
-levels-inside-requires c κs = search needs
+levels-inside-requires c κs = visits-counted _ _ _ (c .pre) .right-zeros
 
-levels-inside-requires-2 : tie.Need-levels-inside-requires-2
-levels-inside-requires-2 c κs = search needs
+levels-apart-requires : tie.Need-levels-apart-requires
+levels-apart-requires c κs = c .before .pre .some
 
-add-ends : tie.Need-add-ends
-add-ends c =
-    let n = c .before .before .before .before .pre in
-    omega (arith, counted (c .before .before .before) .small, c .before .levels-inside .ensures, c .levels-inside2 .ensures, levels-fit _ _ _ (n .power) (omega arith) (n .fits))
-
-levels-shared-requires : tie.Need-levels-shared-requires
-levels-shared-requires c κs = let n = c .before .before .before .before .pre in omega (arith, n .some)
-
-sub-result : tie.Need-sub-result
-sub-result c = omega (arith, counted (c .before .before .before .before) .twice, c .before .before .levels-inside .ensures, c .before .levels-inside2 .ensures, c .levels-shared .ensures)
+add-inside : tie.Need-add-inside
+add-inside c = omega (arith, few-levels c)
 
 mul-result : tie.Need-mul-result
-mul-result c =
-    let n = c .before .before .before .before .before .pre in
-    omega (arith, counted (c .before .before .before .before) .small, c .before .before .levels-inside .ensures, c .before .levels-inside2 .ensures, levels-fit _ _ _ (n .power) (omega arith) (n .fits))
+mul-result c = omega (arith, few-levels c)
 
 add-result : tie.Need-add-result
-add-result c =
-    let n = c .before .before .before .before .before .pre in
-    omega (arith, counted (c .before .before .before .before) .small, c .before .before .levels-inside .ensures, c .before .levels-inside2 .ensures, levels-fit _ _ _ (n .power) (omega arith) (n .fits))
+add-result c = omega (arith, few-levels c)
 
 cast-result : tie.Need-cast-result
-cast-result c =
-    let n = c .before .before .before .before .before .pre in
-    omega (arith, counted (c .before .before .before .before) .small, c .before .before .levels-inside .ensures, c .before .levels-inside2 .ensures, levels-fit _ _ _ (n .power) (omega arith) (n .fits))
+cast-result c = omega (arith, few-levels c)
 
 returns : tie.Need-returns
-returns c = omega (arith, counted (c .before .before .before .before) .visits-are, c .before .before .levels-inside .ensures, c .before .levels-inside2 .ensures, c .levels-shared .ensures)
+returns c = omega (arith, visits-counted _ _ _ (c .before .before .pre) .visits-are, c .before .levels-inside .ensures, c .levels-apart .ensures)
 
 pub count-visits-spec : {M : Type 1} → statement M
 count-visits-spec =
     tie.close
     (tie.spec
-    add-left
-    add-right
     levels-inside-requires
-    levels-inside-requires-2
-    add-ends
-    levels-shared-requires
-    sub-result
+    levels-apart-requires
+    add-inside
     mul-result
     add-result
     cast-result

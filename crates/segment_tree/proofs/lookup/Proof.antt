@@ -4,6 +4,7 @@ use native.Mathlib.Omega.{arith}
 use borrow.Author.Needs.{needs}
 use borrow.Author.Tests.{ltb-true, eqb-true}
 use Rattle.sweep_laws.specs.EntryLaws.{smallest-empty, smallest-first}
+use Rattle.sweep_laws.specs.Levels.{levels-fit}
 use Rattle.sweep_laws.specs.VisitBound.{visits-empty}
 use Rattle.segment_tree.proofs.lookup.Statement.{statement}
 use Rattle.segment_tree.proofs.lookup.Tie as tie
@@ -16,7 +17,13 @@ returns c =
     }
 
 count-visits-requires : tie.Need-count-visits-requires
-count-visits-requires c κs = record { power = c .before .before .pre .power; some = omega (arith, c .if1 .left); inside = c .before .before .pre .inside; fits = omega (arith, c .before .before .pre .tree .room, c .before .before .good .0 .0) }
+count-visits-requires c κs =
+    let n = c .before .before .pre in
+    record {
+      few = levels-fit _ _ _ (n .power) (n .tree .room) (c .before .before .good .0 .0);
+      some = omega (arith, c .if1 .left);
+      inside = omega (arith, n .inside, n .power);
+    }
 
 add-t13 : tie.Need-add-t13
 add-t13 c = omega (arith, ltb-true (c .before .before .before .before .before .before .args .slot) (c .before .before .before .before .before .before .args .to) (c .before .if3 .taken), c .before .before .before .before .before .before .pre .inside, c .before .before .before .before .before .before .pre .tree .room, c .before .before .before .before .before .before .good .0 .0)
