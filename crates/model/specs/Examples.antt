@@ -1,4 +1,4 @@
--- The worked tables (docs/RULES.md, 15; document 01, "Tables to try", those marked ◆), and what is printed for some: one table of examples, and one fact.
+-- The worked tables (docs/RULES.md, 15; document 01, "Tables to try", those marked ◆), and what is printed for some: a table of examples, one of printings, and one fact of both.
 use Prim.Native.Nat.{ℕ}
 use mathlib.Core.Path.{_≡_, refl}
 use mathlib.Core.List.{List, [], _∷_, _++_, map, flatMap, headD}

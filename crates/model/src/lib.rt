@@ -4,7 +4,7 @@ ghost use Prim.Native.Nat.{_+_, _<_};
 ghost use lib.Dec.{eqb, ltb};
 ghost use Rattle.model.specs.Tree.{FFFF};
 
-// What stands for no layout and no job: FFFF in the table and in every lent buffer.
+// What stands for no layout, no job and no place: FFFF in the table and in lent number cells.
 pub const ABSENT: u16 = 0xFFFF;
 
 // The number of a layout, a node of the tree.

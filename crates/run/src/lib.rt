@@ -20,7 +20,8 @@ ghost use Rattle.run.specs.Whole.{ArraysFor, fewJobs, someJobs};
 // Bytes of output that the whole run needs.
 pub const OUTPUT: usize = 32768;
 
-// A table of few bytes is run in arrays for few jobs, so that little memory is touched: so many jobs have room there, in no fewer bytes than these.
+// A table of few bytes is run in arrays for few jobs, so that little memory is touched: FEW jobs take FEW_BYTES bytes, so a table that has no more bytes has no
+// more jobs.
 const FEW: usize = 128;
 
 const FEW_BYTES: usize = FEW * frame::LONG_LINE;

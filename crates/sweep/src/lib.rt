@@ -73,7 +73,7 @@ fn set_pair(work: &mut [u16], count: usize, place: Rank, mate: Rank)
     schedule::end_asking(work, count, mate);
 }
 
-// The slot of the place after this one, if there is one.
+// The slot of the place after this one, if there is one. It tells where to look first and nothing rests on it, so nothing is promised of it.
 fn slot_after(work: &[u16], count: usize, place: Rank) -> usize
     requires { ⌜ place .0 < count ⌝ }
     requires { ⌜ count ≤ jobLimit ⌝ }

@@ -14,10 +14,10 @@ to-at-requires : tie.Need-to-at-requires
 to-at-requires c κs = let p = c .before .before .before .before .before .before .pre in omega (arith, p .1, p .2 .sweeping .cells .room, c .before .before .before .insert-reached .ensures .front .same)
 
 match-place-requires : tie.Need-match-place-requires
-match-place-requires c κs = let p = c .before .before .before .before .before .before .before .before .before .pre in (p .0, _, step-asking _ _ _ _ _ _ _ _ _ _ _ (p .2) (p .1) _ _ (c .before .before .before .before .before .before .insert-reached .ensures) _ (c .before .before .to-at .ensures) (c .before .if1 .taken))
+match-place-requires c κs = let p = c .before .before .before .before .before .before .before .before .before .pre in (p .0, _, step-asking _ _ _ _ _ _ _ _ _ _ _ (p .2) (p .1) _ _ (c .before .before .before .before .before .before .insert-reached .ensures) _ (c .before .before .to-at .ensures) (omega (arith, c .before .if1 .taken)))
 
 set-opener-requires : tie.Need-set-opener-requires
-set-opener-requires c κs = let p = c .before .before .before .before .before .before .before .before .before .before .before .before .before .pre in opener-room _ _ _ _ _ _ _ _ _ _ _ (p .2) (p .1) _ _ (c .before .before .before .before .before .before .before .before .before .before .insert-reached .ensures) _ (c .before .before .before .before .before .before .to-at .ensures) (c .before .before .before .before .before .if1 .taken) _ _ _ (c .before .before .before .match-place .ensures _ _ (step-asking _ _ _ _ _ _ _ _ _ _ _ (p .2) (p .1) _ _ (c .before .before .before .before .before .before .before .before .before .before .insert-reached .ensures) _ (c .before .before .before .before .before .before .to-at .ensures) (c .before .before .before .before .before .if1 .taken)))
+set-opener-requires c κs = let p = c .before .before .before .before .before .before .before .before .before .before .before .before .before .pre in opener-room _ _ _ _ _ _ _ _ _ _ _ (p .2) (p .1) _ _ (c .before .before .before .before .before .before .before .before .before .before .insert-reached .ensures) _ (c .before .before .before .before .before .before .to-at .ensures) (omega (arith, c .before .before .before .before .before .if1 .taken)) _ _ _ (c .before .before .before .match-place .ensures _ _ (step-asking _ _ _ _ _ _ _ _ _ _ _ (p .2) (p .1) _ _ (c .before .before .before .before .before .before .before .before .before .before .insert-reached .ensures) _ (c .before .before .before .before .before .before .to-at .ensures) (omega (arith, c .before .before .before .before .before .if1 .taken))))
 
 is-none-requires : tie.Need-is-none-requires
 is-none-requires c κs = search needs
@@ -26,7 +26,7 @@ add-t24 : tie.Need-add-t24
 add-t24 c = search needs
 
 add-t25 : tie.Need-add-t25
-add-t25 c = let p = c .before .before .before .before .before .before .before .before .before .before .before .before .before .before .before .before .before .before .before .pre in omega (arith, p .1, p .2 .made .few-visits, p .2 .made .few-pairs, p .2 .made .few-passes, p .2 .sweeping .setting .few, (c .before .before .before .before .before .before .before .before .before .match-place .ensures _ _ (step-asking _ _ _ _ _ _ _ _ _ _ _ (p .2) (p .1) _ _ (c .before .before .before .before .before .before .before .before .before .before .before .before .before .before .before .before .insert-reached .ensures) _ (c .before .before .before .before .before .before .before .before .before .before .before .before .to-at .ensures) (c .before .before .before .before .before .before .before .before .before .before .before .if1 .taken))) .few-visits)
+add-t25 c = let p = c .before .before .before .before .before .before .before .before .before .before .before .before .before .before .before .before .before .before .before .pre in omega (arith, p .1, p .2 .made .few-visits, p .2 .made .few-pairs, p .2 .made .few-passes, p .2 .sweeping .setting .few, (c .before .before .before .before .before .before .before .before .before .match-place .ensures _ _ (step-asking _ _ _ _ _ _ _ _ _ _ _ (p .2) (p .1) _ _ (c .before .before .before .before .before .before .before .before .before .before .before .before .before .before .before .before .insert-reached .ensures) _ (c .before .before .before .before .before .before .before .before .before .before .before .before .to-at .ensures) (omega (arith, c .before .before .before .before .before .before .before .before .before .before .before .if1 .taken)))) .few-visits)
 
 same-length : tie.Need-same-length
 same-length c = search needs
@@ -35,8 +35,8 @@ returns : tie.Need-returns
 returns c =
     let p = c .before .before .before .before .before .before .before .before .before .before .before .before .before .before .before .before .before .before .before .pre in
     record {
-      order = rw (c .before .before .before .before .before .set-opener .ensures) (step-front _ _ _ _ _ _ _ _ _ _ _ (p .2) (p .1) _ _ (c .before .before .before .before .before .before .before .before .before .before .before .before .before .before .before .before .insert-reached .ensures) _ (c .before .before .before .before .before .before .before .before .before .before .before .before .to-at .ensures) (c .before .before .before .before .before .before .before .before .before .before .before .if1 .taken) _ _ _ (c .before .before .before .before .before .before .before .before .before .match-place .ensures _ _ (step-asking _ _ _ _ _ _ _ _ _ _ _ (p .2) (p .1) _ _ (c .before .before .before .before .before .before .before .before .before .before .before .before .before .before .before .before .insert-reached .ensures) _ (c .before .before .before .before .before .before .before .before .before .before .before .before .to-at .ensures) (c .before .before .before .before .before .before .before .before .before .before .before .if1 .taken))));
-      stepped = λ s u. rw (c .before .before .before .before .before .set-opener .ensures) (step-unmatched _ _ _ _ _ _ _ _ _ _ _ u (p .1) _ _ (c .before .before .before .before .before .before .before .before .before .before .before .before .before .before .before .before .insert-reached .ensures) _ (c .before .before .before .before .before .before .before .before .before .before .before .before .to-at .ensures) (c .before .before .before .before .before .before .before .before .before .before .before .if1 .taken) _ _ _ (c .before .before .before .before .before .before .before .before .before .match-place .ensures _ _ (step-asking _ _ _ _ _ _ _ _ _ _ _ u (p .1) _ _ (c .before .before .before .before .before .before .before .before .before .before .before .before .before .before .before .before .insert-reached .ensures) _ (c .before .before .before .before .before .before .before .before .before .before .before .before .to-at .ensures) (c .before .before .before .before .before .before .before .before .before .before .before .if1 .taken))) (eqb-true _ _ (sym (c .before .before .is-none .ensures) ∙ c .before .if2 .taken)));
+      order = rw (c .before .before .before .before .before .set-opener .ensures) (step-front _ _ _ _ _ _ _ _ _ _ _ (p .2) (p .1) _ _ (c .before .before .before .before .before .before .before .before .before .before .before .before .before .before .before .before .insert-reached .ensures) _ (c .before .before .before .before .before .before .before .before .before .before .before .before .to-at .ensures) (omega (arith, c .before .before .before .before .before .before .before .before .before .before .before .if1 .taken)) _ _ _ (c .before .before .before .before .before .before .before .before .before .match-place .ensures _ _ (step-asking _ _ _ _ _ _ _ _ _ _ _ (p .2) (p .1) _ _ (c .before .before .before .before .before .before .before .before .before .before .before .before .before .before .before .before .insert-reached .ensures) _ (c .before .before .before .before .before .before .before .before .before .before .before .before .to-at .ensures) (omega (arith, c .before .before .before .before .before .before .before .before .before .before .before .if1 .taken)))));
+      stepped = λ s u. rw (c .before .before .before .before .before .set-opener .ensures) (step-unmatched _ _ _ _ _ _ _ _ _ _ _ u (p .1) _ _ (c .before .before .before .before .before .before .before .before .before .before .before .before .before .before .before .before .insert-reached .ensures) _ (c .before .before .before .before .before .before .before .before .before .before .before .before .to-at .ensures) (omega (arith, c .before .before .before .before .before .before .before .before .before .before .before .if1 .taken)) _ _ _ (c .before .before .before .before .before .before .before .before .before .match-place .ensures _ _ (step-asking _ _ _ _ _ _ _ _ _ _ _ u (p .1) _ _ (c .before .before .before .before .before .before .before .before .before .before .before .before .before .before .before .before .insert-reached .ensures) _ (c .before .before .before .before .before .before .before .before .before .before .before .before .to-at .ensures) (omega (arith, c .before .before .before .before .before .before .before .before .before .before .before .if1 .taken)))) (eqb-true _ _ (sym (c .before .before .is-none .ensures) ∙ c .before .if2 .taken)));
     }
 
 add-t26 : tie.Need-add-t26
@@ -46,7 +46,7 @@ add-t27 : tie.Need-add-t27
 add-t27 c = search needs
 
 add-t28 : tie.Need-add-t28
-add-t28 c = let p = c .before .before .before .before .before .before .before .before .before .before .before .before .before .before .before .before .before .before .before .pre in omega (arith, p .1, p .2 .made .few-visits, p .2 .made .few-pairs, p .2 .made .few-passes, p .2 .sweeping .setting .few, (c .before .before .before .before .before .before .before .before .before .match-place .ensures _ _ (step-asking _ _ _ _ _ _ _ _ _ _ _ (p .2) (p .1) _ _ (c .before .before .before .before .before .before .before .before .before .before .before .before .before .before .before .before .insert-reached .ensures) _ (c .before .before .before .before .before .before .before .before .before .before .before .before .to-at .ensures) (c .before .before .before .before .before .before .before .before .before .before .before .if1 .taken))) .few-visits)
+add-t28 c = let p = c .before .before .before .before .before .before .before .before .before .before .before .before .before .before .before .before .before .before .before .pre in omega (arith, p .1, p .2 .made .few-visits, p .2 .made .few-pairs, p .2 .made .few-passes, p .2 .sweeping .setting .few, (c .before .before .before .before .before .before .before .before .before .match-place .ensures _ _ (step-asking _ _ _ _ _ _ _ _ _ _ _ (p .2) (p .1) _ _ (c .before .before .before .before .before .before .before .before .before .before .before .before .before .before .before .before .insert-reached .ensures) _ (c .before .before .before .before .before .before .before .before .before .before .before .before .to-at .ensures) (omega (arith, c .before .before .before .before .before .before .before .before .before .before .before .if1 .taken)))) .few-visits)
 
 same-length-2 : tie.Need-same-length-2
 same-length-2 c = search needs
@@ -55,8 +55,8 @@ returns-2 : tie.Need-returns-2
 returns-2 c =
     let p = c .before .before .before .before .before .before .before .before .before .before .before .before .before .before .before .before .before .before .before .pre in
     record {
-      order = rw (c .before .before .before .before .before .set-opener .ensures) (step-front _ _ _ _ _ _ _ _ _ _ _ (p .2) (p .1) _ _ (c .before .before .before .before .before .before .before .before .before .before .before .before .before .before .before .before .insert-reached .ensures) _ (c .before .before .before .before .before .before .before .before .before .before .before .before .to-at .ensures) (c .before .before .before .before .before .before .before .before .before .before .before .if1 .taken) _ _ _ (c .before .before .before .before .before .before .before .before .before .match-place .ensures _ _ (step-asking _ _ _ _ _ _ _ _ _ _ _ (p .2) (p .1) _ _ (c .before .before .before .before .before .before .before .before .before .before .before .before .before .before .before .before .insert-reached .ensures) _ (c .before .before .before .before .before .before .before .before .before .before .before .before .to-at .ensures) (c .before .before .before .before .before .before .before .before .before .before .before .if1 .taken))));
-      stepped = λ s u. rw (c .before .before .before .before .before .set-opener .ensures) (step-matched _ _ _ _ _ _ _ _ _ _ _ u (p .1) _ _ (c .before .before .before .before .before .before .before .before .before .before .before .before .before .before .before .before .insert-reached .ensures) _ (c .before .before .before .before .before .before .before .before .before .before .before .before .to-at .ensures) (c .before .before .before .before .before .before .before .before .before .before .before .if1 .taken) _ _ _ (c .before .before .before .before .before .before .before .before .before .match-place .ensures _ _ (step-asking _ _ _ _ _ _ _ _ _ _ _ u (p .1) _ _ (c .before .before .before .before .before .before .before .before .before .before .before .before .before .before .before .before .insert-reached .ensures) _ (c .before .before .before .before .before .before .before .before .before .before .before .before .to-at .ensures) (c .before .before .before .before .before .before .before .before .before .before .before .if1 .taken))) (eqb-false _ _ (sym (c .before .before .is-none .ensures) ∙ c .before .if2 .left)));
+      order = rw (c .before .before .before .before .before .set-opener .ensures) (step-front _ _ _ _ _ _ _ _ _ _ _ (p .2) (p .1) _ _ (c .before .before .before .before .before .before .before .before .before .before .before .before .before .before .before .before .insert-reached .ensures) _ (c .before .before .before .before .before .before .before .before .before .before .before .before .to-at .ensures) (omega (arith, c .before .before .before .before .before .before .before .before .before .before .before .if1 .taken)) _ _ _ (c .before .before .before .before .before .before .before .before .before .match-place .ensures _ _ (step-asking _ _ _ _ _ _ _ _ _ _ _ (p .2) (p .1) _ _ (c .before .before .before .before .before .before .before .before .before .before .before .before .before .before .before .before .insert-reached .ensures) _ (c .before .before .before .before .before .before .before .before .before .before .before .before .to-at .ensures) (omega (arith, c .before .before .before .before .before .before .before .before .before .before .before .if1 .taken)))));
+      stepped = λ s u. rw (c .before .before .before .before .before .set-opener .ensures) (step-matched _ _ _ _ _ _ _ _ _ _ _ u (p .1) _ _ (c .before .before .before .before .before .before .before .before .before .before .before .before .before .before .before .before .insert-reached .ensures) _ (c .before .before .before .before .before .before .before .before .before .before .before .before .to-at .ensures) (omega (arith, c .before .before .before .before .before .before .before .before .before .before .before .if1 .taken)) _ _ _ (c .before .before .before .before .before .before .before .before .before .match-place .ensures _ _ (step-asking _ _ _ _ _ _ _ _ _ _ _ u (p .1) _ _ (c .before .before .before .before .before .before .before .before .before .before .before .before .before .before .before .before .insert-reached .ensures) _ (c .before .before .before .before .before .before .before .before .before .before .before .before .to-at .ensures) (omega (arith, c .before .before .before .before .before .before .before .before .before .before .before .if1 .taken)))) (eqb-false _ _ (sym (c .before .before .is-none .ensures) ∙ c .before .if2 .left)));
     }
 
 mate-at-requires : tie.Need-mate-at-requires
