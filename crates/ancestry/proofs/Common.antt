@@ -1,23 +1,22 @@
 -- The lowest common ancestor of two layouts is the smallest of the two and of the parents of the layouts whose first leaf lies after that of the left one, up to
 -- that of the right one. Such a layout stands below it, so its parent is no smaller; and one of them is its child.
-use Prim.Native.Nat.{ℕ, zero, suc, _+_, _-_, _≤_, _<_, min, max}
-use mathlib.Core.Path.{_≡_, refl, sym, ap, _∙_}
-use mathlib.Core.Bool.{Bool, true, false, cond}
+use Prim.Native.Nat.{ℕ, _+_, _-_, _≤_, _<_, min, max}
+use mathlib.Core.Path.{_≡_, refl, ap, _∙_}
+use mathlib.Core.Bool.{true, false}
 use mathlib.Core.Logic.{⊎-elim}
 use mathlib.Core.List.{List, List·Memᴰ as Mem}
 use native.Mathlib.Nat.{le-antisymm}
 use native.Mathlib.Decide.{ℕ-discrete, decLe}
 use native.Mathlib.Omega.{arith}
 use lib.ListN.{length, getD}
-use lib.Dec.{eqb}
 use borrow.Author.Tests.{eq-eqb, ne-eqb}
-use Rattle.model.specs.Tree.{FFFF, layoutLimit, depth, children, firstLeaf, lastLeaf, ancestorOrSelf}
+use Rattle.model.specs.Tree.{FFFF, depth, children, firstLeaf, ancestorOrSelf}
 use Rattle.laws.specs.Booleans.{answers, one-answer}
 use Rattle.laws.specs.Least.{leastOf, least-le, least-bound}
 use Rattle.tree_laws.specs.WellFormed.{Tree}
 use Rattle.tree_laws.specs.Ancestors.{AncestorOrSelf, self, up, ancestor-root, ancestor-trans, ancestor-cases, ancestor-le, ancestor-true, true-ancestor}
 use Rattle.tree_laws.specs.Children.{ancestor-child, child-parent, child-greater}
-use Rattle.tree_laws.specs.Spans.{InSpan, first-le-last, nested, spans-meet, ancestor-span, span-ancestor}
+use Rattle.tree_laws.specs.Spans.{InSpan, first-le-last, nested, spans-meet, span-ancestor}
 use Rattle.ancestry.specs.Ancestry.{LowestCommonAncestor}
 use Rattle.ancestry.specs.SparseTable.{parentFrom, smallestParent}
 

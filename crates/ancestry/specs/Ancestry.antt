@@ -1,12 +1,11 @@
 -- The lowest common ancestor of two layouts, and that a pair prints on it (document 01, "A pair prints on its
 -- deepest shared layout").
-use Prim.Native.Nat.{ℕ, _≤_, _<_}
+use Prim.Native.Nat.{ℕ, _<_}
 use mathlib.Core.Path.{_≡_, sym, _∙_}
 use mathlib.Core.Bool.{true}
 use mathlib.Core.List.{List}
 use native.Mathlib.Nat.{le-antisymm}
-use lib.ListN.{length, getD}
-use Rattle.model.specs.Tree.{layoutLimit, lastLeaf}
+use lib.ListN.{length}
 use Rattle.model.specs.Jobs.{Table, jobs, bottom, shares, deepestShared}
 use Rattle.tree_laws.specs.WellFormed.{Tree}
 use Rattle.tree_laws.specs.Ancestors.{AncestorOrSelf, ancestor-le}

@@ -1,11 +1,13 @@
 // The lowest common ancestor of two layouts, by range minimum. It is the smallest of the two and of the parents of the layouts whose first leaf lies after
 // that of the left one, up to that of the right one: an ancestor has a smaller number than what stands below it. Minima of these parents stand in a
 // sparse table.
+use buffers::larger;
+use buffers::lesser;
 use model::LayoutNumber;
 use settle::TREE;
 ghost use mathlib.Core.Path.{_≡_};
 ghost use mathlib.Core.List.{List};
-ghost use Prim.Native.Nat.{ℕ, _+_, _-_, _<_, _≤_, min, max};
+ghost use Prim.Native.Nat.{ℕ, _+_, _-_, _<_, _≤_, min};
 ghost use lib.ListN.{length, replicate};
 ghost use Rattle.model.specs.Tree.{FFFF};
 ghost use Rattle.laws.specs.Least.{leastOf};
@@ -101,25 +103,6 @@ fn smallest_parent(tree: &[u16; TREE], minima: &[u16], from: usize, to: usize) -
     let left = LayoutNumber(minima[row + from]);
     let right = LayoutNumber(minima[row + to - window]);
     smaller(left, right)
-}
-
-// The smaller and the larger of two leaves.
-fn lesser(a: usize, b: usize) -> usize
-    ensures { λ r. ⌜ r ≡ min a b ⌝ }
-{
-    if a < b {
-        return a;
-    }
-    b
-}
-
-fn larger(a: usize, b: usize) -> usize
-    ensures { λ r. ⌜ r ≡ max a b ⌝ }
-{
-    if a < b {
-        return b;
-    }
-    a
 }
 
 // The lowest common ancestor of x and y; a layout counts as its own.

@@ -1,5 +1,6 @@
-// Lent buffers: a cell as an index, and cells filled with one number.
+// What many parts do with cells and numbers: a cell as an index, cells filled with one number, the lesser and the larger of two numbers.
 ghost use mathlib.Core.Path.{_≡_};
+ghost use Prim.Native.Nat.{min, max};
 ghost use lib.ListN.{length, replicate};
 
 // A cell as an index: as a call, so that a cast of a cell that is read asks for no proof that it fits.
@@ -29,4 +30,22 @@ pub fn clear_marks(marks: &mut [u8])
         marks[i] = 0;
         i += 1;
     }
+}
+
+pub fn lesser(a: usize, b: usize) -> usize
+    ensures { λ r. ⌜ r ≡ min a b ⌝ }
+{
+    if a < b {
+        return a;
+    }
+    b
+}
+
+pub fn larger(a: usize, b: usize) -> usize
+    ensures { λ r. ⌜ r ≡ max a b ⌝ }
+{
+    if a < b {
+        return b;
+    }
+    a
 }

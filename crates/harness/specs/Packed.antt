@@ -12,7 +12,6 @@ use Rattle.model.specs.declared.TableRead.{TableRead}
 use Rattle.model.specs.declared.TableRead.the-variants as table-read
 use Rattle.model.specs.declared.Planned.{Planned}
 use Rattle.model.specs.declared.Planned.the-variants as planned
-use Rattle.model.specs.declared.Totals.{Totals}
 
 -- number × 65536 + place
 abbrev pub packedRefusal : Refusal → ℕ

@@ -1,7 +1,7 @@
 -- Plain laws of lists: members, earlier and later ones, selections, lists made member by member, lists without repeats, the first that passes.
 use Prim.Native.Nat.{ℕ, zero, suc, _+_, _≤_, _<_}
 use mathlib.Core.Path.{_≡_, refl, sym, ap, _∙_, subst}
-use mathlib.Core.Bool.{Bool, true, false, _||_, true≢false, false≢true}
+use mathlib.Core.Bool.{Bool, true, false, true≢false, false≢true}
 use mathlib.Core.Logic.{_⊎_, inl, inr, ⊎-elim, _≢_}
 use mathlib.Core.Option.{Option, none, some}
 use mathlib.Core.List.{List, [], _∷_, _++_, map, flatMap, headD, append-assoc, append-nil, List·Memᴰ as Mem, List·Memᴰ·head as here, List·Memᴰ·tail as there, List·Memᴰ·not-nil as not-nil, List·Memᴰ·cases-cons as mem-cons, Memᴰ·append-right as mem-right, Memᴰ·cast as mem-cast, List·Memᴰ·append-cases as mem-append}
@@ -68,14 +68,10 @@ module _ (R : ℕ → ℕ → Type 0) where
       first : (y : ℕ) → Mem y (xs ++ ys) → R x y
       first y m = ⊎-elim (λ (m : Mem y xs). all-mem (R x) (p .0) m) (f x y (here refl)) (mem-append xs m)
 
-  -- and back: the second part, and a member of the first with one of the second
+  -- and back: the second part
   pub pairwise-right : (xs ys : List ℕ) → AllPairs R (xs ++ ys) → AllPairs R ys
   pairwise-right [] ys p = p
   pairwise-right (x ∷ xs) ys p = pairwise-right xs ys (p .1)
-
-  pub pairwise-across : (xs ys : List ℕ) → AllPairs R (xs ++ ys) → (x y : ℕ) → Mem x xs → Mem y ys → R x y
-  pairwise-across xs ys p x y (here {x = z} {xs = zs} e) n = subst (λ (z : ℕ). R z y) (sym e) (all-mem (R z) (p .0) (mem-right zs n))
-  pairwise-across xs ys p x y (there {x = z} {xs = zs} m) n = pairwise-across zs ys (p .1) x y m n
 
 -- every member is the head, or the head has the relation to it
 pub head-first : (R : ℕ → ℕ → Type 0) {y : ℕ} {l : List ℕ} (d : ℕ) → AllPairs R l → Mem y l → (y ≡ headD l d) ⊎ R (headD l d) y

@@ -11,7 +11,7 @@ use Rattle.model.specs.Lists.{countWhere, select, total}
 use Rattle.model.specs.Jobs.{Table, jobs, jobLimit, solo, shares, topDepth}
 use Rattle.model.specs.Order.{runningOrder, place}
 use Rattle.model.specs.Greedy.{greedy, compatible, passes}
-use Rattle.model.specs.Rival.{Pair, Disjoint, Rules, Rival, inFront, pairsInFront, pairsOf}
+use Rattle.model.specs.Rival.{Pair, NoCommonJob, Rules, Rival, inFront, pairsInFront, pairsOf}
 use Rattle.model.specs.Planning.{pairCount, partners}
 use Rattle.laws.specs.Lists.{mem-all, all-imply, selected-all, select-pairwise}
 use Rattle.laws.specs.Booleans.{T-true}
@@ -82,4 +82,4 @@ maximum-at-every-cut tb t down small ps rival m = rw (our-pairs-in-front tb smal
         (take-pairwise (Falls (topDepth tb)) m (runningOrder tb) (running-falls tb))
         (select (inFront tb m) ps)
         (all-imply (λ (p : Pair). Rules tb p × (inFront tb m p ≡ true)) (Fits (compatible tb) (λ (z : ℕ). Mem z front)) (select (inFront tb m) ps) (λ p r. front-fits tb m p (r .0) (r .1)) (selected-all (inFront tb m) (Rules tb) ps (rival .keep)))
-        (select-pairwise (inFront tb m) Disjoint ps (rival .once))
+        (select-pairwise (inFront tb m) NoCommonJob ps (rival .once))

@@ -12,7 +12,7 @@ use native.Mathlib.Omega.{arith}
 use lib.ListN.{length}
 use Rattle.model.specs.Lists.{find, total, All, AllPairs}
 use Rattle.model.specs.Greedy.{without, greedyStep, greedySteps, greedy}
-use Rattle.model.specs.Rival.{Pair, Disjoint}
+use Rattle.model.specs.Rival.{Pair, NoCommonJob}
 use Rattle.model.specs.Planning.{pairCount}
 use Rattle.laws.specs.Lists.{all-mem, mem-all, mem-rest, found-or-none, find-some, find-none, find-first}
 use Rattle.laws.specs.Without.{without-mem, mem-without, without-pairwise, without-length}
@@ -171,11 +171,11 @@ module _ (Vertex : ℕ → Type 0) (D : ℕ → ℕ) (fit : ℕ → ℕ → Bool
       (found-or-none (find (fit v) vs))
 
   -- pairs without a common vertex take their vertices out one after the other
-  take-out : (P : ℕ → Type 0) (ps : List Pair) → All (Fits fit P) ps → AllPairs Disjoint ps → Matching fit P ps
+  take-out : (P : ℕ → Type 0) (ps : List Pair) → All (Fits fit P) ps → AllPairs NoCommonJob ps → Matching fit P ps
   take-out P [] a d = tt
   take-out P (p ∷ ps) a d = (a .0, take-out (Without P (p .one) (p .other)) ps (others ps (a .1) (d .0)) (d .1))
     where
-      other : (q : Pair) → Fits fit P q → Disjoint p q → Fits fit (Without P (p .one) (p .other)) q
+      other : (q : Pair) → Fits fit P q → NoCommonJob p q → Fits fit (Without P (p .one) (p .other)) q
       other q a d = record {
         one-in = (a .one-in, λ e. d .one-one (sym e), λ e. d .other-one (sym e));
         other-in = (a .other-in, λ e. d .one-other (sym e), λ e. d .other-other (sym e));
@@ -183,7 +183,7 @@ module _ (Vertex : ℕ → Type 0) (D : ℕ → ℕ) (fit : ℕ → ℕ → Bool
         fits = a .fits;
       }
 
-      others : (qs : List Pair) → All (Fits fit P) qs → All (Disjoint p) qs → All (Fits fit (Without P (p .one) (p .other))) qs
+      others : (qs : List Pair) → All (Fits fit P) qs → All (NoCommonJob p) qs → All (Fits fit (Without P (p .one) (p .other))) qs
       others [] a d = tt
       others (q ∷ qs) a d = (other q (a .0) (d .0), others qs (a .1) (d .1))
 
@@ -194,7 +194,7 @@ module _ (Vertex : ℕ → Type 0) (D : ℕ → ℕ) (fit : ℕ → ℕ → Bool
       → AllPairs (Falls D) vs
       → (ps : List Pair)
       → All (Fits fit (λ (z : ℕ). Mem z vs)) ps
-      → AllPairs Disjoint ps
+      → AllPairs NoCommonJob ps
       → length ps ≤ total pairCount (greedy fit vs)
   unfolding greedy
   greedy-maximum vs known falls ps a d = steps-maximum (length vs) vs (omega arith) known falls ps (take-out (λ (z : ℕ). Mem z vs) ps a d)

@@ -1,5 +1,5 @@
 -- The partner buffer (document 01, "Rival plans and the cut"): the pairs read back from it are the pairs of the passes, and keep the rules.
-use Prim.Native.Nat.{ℕ, suc, _+_, _*_, _-_, _≤_, _<_}
+use Prim.Native.Nat.{ℕ, suc, _+_, _*_, _≤_, _<_}
 use mathlib.Core.Path.{_≡_, refl, sym, ap, _∙_}
 use mathlib.Core.Logic.{_⊎_, inl, inr, ⊎-elim, _≢_}
 use mathlib.Core.Bool.{Bool, true, false, cond, _&&_, and-comm, and-false, and-eq-true-iff}
@@ -14,7 +14,7 @@ use Rattle.model.specs.Tree.{FFFF}
 use Rattle.model.specs.Jobs.{Table, jobs, jobLimit}
 use Rattle.model.specs.Order.{runningOrder, place}
 use Rattle.model.specs.Greedy.{Pass, pair, single, compatible, passes}
-use Rattle.model.specs.Rival.{Pair, Disjoint, Rules, Rival, inFront, pairsInFront, pairsOf}
+use Rattle.model.specs.Rival.{Pair, NoCommonJob, Rules, Rival, inFront, pairsInFront, pairsOf}
 use Rattle.model.specs.Planning.{partnerIn, partners, pairs, singles}
 use Rattle.laws.specs.Lists.{Distinct, all-mem, mem-all, pairwise-imply, select-mem, select-pairwise, map-all, map-pairwise}
 use Rattle.laws.specs.Counting.{count-length-all, count-agree, count-none, count-all, count-select, count-map, count-at}
@@ -198,13 +198,13 @@ module _ (n : ℕ) (cells : List ℕ) where
       (mem-all (λ (i : ℕ). P (record { one = i; other = cell cells i })) (select ours (numbers n)) (λ i m. let k = our-cell m in f i (k .0) (k .1) (k .2)))
 
   -- pairs read from cells that tell each other have no number in common
-  read-disjoint : ((i : ℕ) → i < n → cell cells i < n → cell cells (cell cells i) ≡ i) → AllPairs Disjoint (pairsOf n cells)
+  read-disjoint : ((i : ℕ) → i < n → cell cells i < n → cell cells (cell cells i) ≡ i) → AllPairs NoCommonJob (pairsOf n cells)
   unfolding pairsOf
-  read-disjoint back = map-pairwise (λ (i : ℕ). record { one = i; other = cell cells i }) Disjoint (select ours (numbers n))
-      (pairwise-imply _<_ (λ (i j : ℕ). Disjoint (record { one = i; other = cell cells i }) (record { one = j; other = cell cells j })) (select ours (numbers n)) apart
+  read-disjoint back = map-pairwise (λ (i : ℕ). record { one = i; other = cell cells i }) NoCommonJob (select ours (numbers n))
+      (pairwise-imply _<_ (λ (i j : ℕ). NoCommonJob (record { one = i; other = cell cells i }) (record { one = j; other = cell cells j })) (select ours (numbers n)) apart
       (select-pairwise ours _<_ (numbers n) (numbers-rise n)))
     where
-      apart : (i j : ℕ) → Mem i (select ours (numbers n)) → Mem j (select ours (numbers n)) → i < j → Disjoint (record { one = i; other = cell cells i }) (record { one = j; other = cell cells j })
+      apart : (i j : ℕ) → Mem i (select ours (numbers n)) → Mem j (select ours (numbers n)) → i < j → NoCommonJob (record { one = i; other = cell cells i }) (record { one = j; other = cell cells j })
       apart i j m k l =
           let a = our-cell m in
           let b = our-cell k in

@@ -2,17 +2,16 @@
 -- A vertex whose partner stands behind the cut is single in the shorter run; nothing else differs.
 use Prim.Native.Nat.{ℕ, zero, suc}
 use mathlib.Core.Path.{_≡_, refl, sym, ap, _∙_}
-use mathlib.Core.Logic.{⊎-elim, _≢_}
+use mathlib.Core.Logic.{⊎-elim}
 use mathlib.Core.Bool.{Bool, true, false, true≢false, _&&_}
 use mathlib.Core.Option.{none, some}
-use mathlib.Core.List.{List, [], _∷_, _++_, List·Memᴰ as Mem}
+use mathlib.Core.List.{List, [], _∷_, _++_}
 use native.Mathlib.Omega.{arith}
-use lib.ListN.{length, take, drop, take-append-drop, length-append}
-use Rattle.model.specs.Lists.{elem, find, select, All}
+use lib.ListN.{length, length-append}
+use Rattle.model.specs.Lists.{find, select, All}
 use Rattle.model.specs.Greedy.{without, greedySteps, greedy}
 use Rattle.model.specs.Rival.{Pair}
-use Rattle.laws.specs.Lists.{Distinct, all-mem, mem-all, pairwise-across, elem-mem, mem-elem, found-or-none, find-some, find-left, find-right}
-use Rattle.laws.specs.Booleans.{answers}
+use Rattle.laws.specs.Lists.{all-mem, mem-all, found-or-none, find-some, find-left, find-right}
 use Rattle.laws.specs.Without.{without-mem, without-none, without-append}
 use Rattle.matching.specs.Passes.{pairsIn, step-with, step-alone, steps-greedy}
 
@@ -70,19 +69,3 @@ module _ (fit : ℕ → ℕ → Bool) (inside : ℕ → Bool) where
   pub greedy-inside : (xs ys : List ℕ) → Inside xs → Outside ys → select (both inside) (pairsIn (greedy fit (xs ++ ys))) ≡ pairsIn (greedy fit xs)
   unfolding greedy
   greedy-inside xs ys a b = steps-prefix (length (xs ++ ys)) xs ys a b ∙ ap pairsIn (steps-greedy fit (length (xs ++ ys)) xs (simp length-append (omega arith)))
-
--- the pairs among the first m vertices are the pairs of the first m vertices
-pub greedy-prefix : (fit : ℕ → ℕ → Bool) (m : ℕ) (vs : List ℕ) → Distinct vs → select (both (λ (v : ℕ). elem v (take m vs))) (pairsIn (greedy fit vs)) ≡ pairsIn (greedy fit (take m vs))
-greedy-prefix fit m vs d =
-    ap (λ (l : List ℕ). select (both first) (pairsIn (greedy fit l))) (sym (take-append-drop m vs)) ∙ greedy-inside fit first (take m vs) (drop m vs)
-    (mem-all (λ (v : ℕ). first v ≡ true) (take m vs) (λ v m. mem-elem m))
-    (mem-all (λ (v : ℕ). first v ≡ false) (drop m vs) behind)
-  where
-    first : ℕ → Bool
-    first v = elem v (take m vs)
-
-    behind : (v : ℕ) → Mem v (drop m vs) → first v ≡ false
-    behind v n = ⊎-elim
-        (λ (t : first v ≡ true). absurd (pairwise-across (λ (x y : ℕ). x ≢ y) (take m vs) (drop m vs) (rw (take-append-drop m vs) d) v v (elem-mem v (take m vs) t) n refl))
-        (λ (t : first v ≡ false). t)
-        (answers (first v))

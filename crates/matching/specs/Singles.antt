@@ -11,7 +11,7 @@ use lib.Dec.{eqb}
 use borrow.Author.Tests.{eq-eqb, ne-eqb}
 use Rattle.model.specs.Lists.{numbers, countWhere, anyOf, All, AllPairs}
 use Rattle.model.specs.Jobs.{Table, jobs, jobLimit}
-use Rattle.model.specs.Rival.{Pair, Disjoint, Rules, Rival, pairsOf, inPair, singlesOf, passesOf}
+use Rattle.model.specs.Rival.{Pair, NoCommonJob, Rules, Rival, pairsOf, inPair, singlesOf, passesOf}
 use Rattle.model.specs.Planning.{partners, pairs, singles}
 use Rattle.laws.specs.Numbers.{mem-numbers, numbers-distinct, numbers-length}
 use Rattle.laws.specs.Lists.{all-imply}
@@ -36,13 +36,13 @@ unfolding inPair anyOf
 outside-alone [] j a = refl
 outside-alone (p ∷ ps) j a = rw (ne-eqb j (p .one) (a .0 .0), ne-eqb j (p .other) (a .0 .1)) (outside-alone ps j (a .1))
 
-module _ (p : Pair) (ps : List Pair) (apart : All (Disjoint p) ps) where
+module _ (p : Pair) (ps : List Pair) (apart : All (NoCommonJob p) ps) where
   -- the two of a pair stand in no pair that has no job in common with it
   one-alone : inPair ps (p .one) ≡ false
-  one-alone = outside-alone ps (p .one) (all-imply (Disjoint p) (Outside (p .one)) ps (λ q d. (d .one-one, d .one-other)) apart)
+  one-alone = outside-alone ps (p .one) (all-imply (NoCommonJob p) (Outside (p .one)) ps (λ q d. (d .one-one, d .one-other)) apart)
 
   other-alone : inPair ps (p .other) ≡ false
-  other-alone = outside-alone ps (p .other) (all-imply (Disjoint p) (Outside (p .other)) ps (λ q d. (d .other-one, d .other-other)) apart)
+  other-alone = outside-alone ps (p .other) (all-imply (NoCommonJob p) (Outside (p .other)) ps (λ q d. (d .other-one, d .other-other)) apart)
 
   module _ (n : ℕ) (one-known : p .one < n) (other-known : p .other < n) (differ : p .one ≢ p .other) where
     -- one of the pair is one less alone
@@ -78,7 +78,7 @@ pub singles-and-pairs : (tb : Table) (ps : List Pair) → Rival tb ps → single
 unfolding singlesOf
 singles-and-pairs tb ps rival = counted ps (rival .keep) (rival .once)
   where
-    counted : (ps : List Pair) → All (Rules tb) ps → AllPairs Disjoint ps → countWhere (alone ps) (numbers (jobs tb)) + 2 * length ps ≡ jobs tb
+    counted : (ps : List Pair) → All (Rules tb) ps → AllPairs NoCommonJob ps → countWhere (alone ps) (numbers (jobs tb)) + 2 * length ps ≡ jobs tb
     counted [] keep once = omega (arith, none-taken (jobs tb))
     counted (p ∷ ps) keep once =
         let r : Rules tb p = keep .0 in

@@ -18,7 +18,7 @@ pub record Pair : Type 0 where
   pub other : ℕ
 
 -- no job stands in both
-pub record Disjoint (p q : Pair) : Type 0 where
+pub record NoCommonJob (p q : Pair) : Type 0 where
   pub one-one : p .one ≢ q .one
   pub one-other : p .one ≢ q .other
   pub other-one : p .other ≢ q .one
@@ -36,7 +36,7 @@ pub record Rules (tb : Table) (p : Pair) : Type 0 where
 -- a rival plan, which is any matching: pairs that keep the rules, no job in two of them
 pub record Rival (tb : Table) (ps : List Pair) : Type 0 where
   pub keep : All (Rules tb) ps
-  pub once : AllPairs Disjoint ps
+  pub once : AllPairs NoCommonJob ps
 
 -- both places are below m
 unfoldable pub inFront : Table → ℕ → Pair → Bool

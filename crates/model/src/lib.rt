@@ -131,7 +131,7 @@ pub enum TableRead {
     Refused(Refusal),
 }
 
-// What a plan comes to: its pairs, its singles, and the cells that its lookups visited.
+// What a plan comes to: its pairs, its singles, and the cells that document 01 counts for its lookups.
 pub struct Totals {
     pub pairs: u16,
     pub singles: u16,

@@ -7,7 +7,6 @@ use lib.ListN.{length}
 use Rattle.model.specs.Jobs.{Table, jobs}
 use Rattle.model.specs.Visits.{levels}
 use Rattle.model.specs.declared.Totals.{Totals}
-use Rattle.model.specs.Planning as Planning
 use Rattle.settle.specs.Spanned.{Spanned}
 use Rattle.jobs.specs.Accepted.{Accepted}
 use Rattle.matching.specs.Partners.{jobs-counted, passes-length}

@@ -13,7 +13,7 @@ ghost use lib.ListN.{length};
 ghost use Rattle.model.specs.Verdict.{refuses};
 ghost use Rattle.model.specs.Jobs.{tableOf, jobLimit};
 ghost use Rattle.model.specs.Answers.{plannedAnswer};
-ghost use Rattle.model.specs.Planning.{workCells, jobsVerdict};
+ghost use Rattle.model.specs.Planning.{jobsVerdict};
 ghost use Rattle.model.specs.Outcomes.{PlannedAs, PlanOutcome};
 ghost use Rattle.settle.specs.Spanned.{Spanned};
 ghost use Rattle.jobs.specs.Accepted.{Accepted, Lent};

@@ -1,7 +1,7 @@
 -- The layouts and jobs held in the cells: none, one more, and all.
-use Prim.Native.Nat.{ℕ, zero, suc, _+_, _-_, _*_, _≤_, _<_}
+use Prim.Native.Nat.{ℕ, zero, suc, _+_, _-_, _≤_, _<_}
 use mathlib.Core.Path.{_≡_, refl, sym, _∙_}
-use mathlib.Core.Bool.{true, false, cond}
+use mathlib.Core.Bool.{false, cond}
 use mathlib.Core.List.{List, [], _∷_, _++_}
 use native.Mathlib.Nat.{zero-add}
 use native.Mathlib.Numerals.{add-one}
@@ -13,7 +13,7 @@ use Rattle.model.specs.Tree.{FFFF, layoutLimit, layoutsFrom}
 use Rattle.model.specs.Table.{extended}
 use Rattle.model.specs.declared.Refusal.{Refusal}
 use Rattle.tree_laws.specs.WellFormed.{layouts-more}
-use Rattle.reading.specs.Unchecked.{halted, unchecked}
+use Rattle.reading.specs.Unchecked.{halted}
 use Rattle.reading.specs.Steps.{uncheckedFrom, endedAt, LayoutLine, JobLine, EndLine, Unused, Room, Roomy, BuffersReady, held, SoFar, stopVerdict, LinesRead}
 use Rattle.reading.specs.Lines.{no-bytes}
 use Rattle.reading.specs.declared.Stop.{Stop}

@@ -1,6 +1,6 @@
 -- Reading with the checks of jobs, 5 and 6, put off to the end. The first job that they refuse stands before the line that stopped the reading, so it comes to
 -- the same as reading line by line.
-use Prim.Native.Nat.{ℕ, suc, _+_, _≤_, _<_}
+use Prim.Native.Nat.{ℕ, suc, _+_, _<_}
 use mathlib.Core.Path.{_≡_, refl, sym, ap, _∙_}
 use mathlib.Core.Bool.{Bool, true, false, cond, not, _||_}
 use mathlib.Core.Option.{Option, none, some}

@@ -5,7 +5,7 @@ use mathlib.Core.Logic.{_≢_}
 use mathlib.Core.Bool.{Bool, true, false, not, _||_, _&&_}
 use mathlib.Core.Option.{Option, none, some}
 use mathlib.Core.List.{List, [], _∷_, _++_, map, foldr, List·Memᴰ as Mem, List·Memᴰ·head as here, List·Memᴰ·tail as there}
-use native.Mathlib.Nat.{add-zero, zero-add}
+use native.Mathlib.Nat.{zero-add}
 use native.Mathlib.Decide.{decLt}
 use native.Mathlib.Omega.{arith}
 use lib.ListN.{length, getD, length-append, List·getD-append}
@@ -21,7 +21,7 @@ use Rattle.tree_laws.specs.WellFormed.{well-formed, layouts-more}
 use Rattle.laws.specs.Booleans.{or-false-both}
 use Rattle.laws.specs.Verdicts.{then-accepted, not-refused}
 use Rattle.laws.specs.Numbers.{numbers-mem}
-use Rattle.settle.specs.Checked.{layoutsVerdict, within-limit}
+use Rattle.settle.specs.Checked.{within-limit}
 use Rattle.jobs.specs.Accepted.{Accepted, table-accepted}
 use Rattle.jobs.specs.PlanVerdict.{right-layouts}
 

@@ -1,6 +1,6 @@
 -- Where a schedule, and the passes that the sweep makes of it, stand in the work cells: in parts of n cells, n the number of places. Part 0 has the job
 -- at each place, and the sweep leaves it alone.
-use Prim.Native.Nat.{ℕ, _+_, _*_, _<_}
+use Prim.Native.Nat.{ℕ, _+_, _*_}
 use mathlib.Core.Path.{_≡_}
 use mathlib.Core.Bool.{cond}
 use mathlib.Core.List.{List, map}

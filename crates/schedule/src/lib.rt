@@ -26,7 +26,7 @@ pub const REACHED: usize = 4;
 pub const DUE: usize = 5;
 
 // The segment tree, with up to four times as many cells as there are places.
-pub const TREE: usize = 6;
+pub const NODES: usize = 6;
 
 // What the sweep leaves in the place of what it has used: the mate of each place, and the places that open a pass.
 pub const MATE: usize = FROM;

@@ -1,9 +1,11 @@
 // A segment tree for the smallest place in a span of slots (document 01, "The shelf and its cells"), in lent cells. Node n stands above nodes 2n and
 // 2n + 1, slot s at width + s. A node holds the smallest place under it, FFFF for none. Only the lower levels are kept: the nodes of the uppermost of these
 // stand side by side, and a search goes along them.
+use buffers::larger;
+use buffers::lesser;
 use model::Rank;
 ghost use mathlib.Core.Path.{_≡_};
-ghost use Prim.Native.Nat.{_-_, _<_, _≤_, min, max};
+ghost use Prim.Native.Nat.{_-_, _<_, _≤_, min};
 ghost use lib.ListN.{length};
 ghost use lib.Count.{trailingZeros};
 ghost use Rattle.model.specs.Jobs.{jobLimit};
@@ -23,8 +25,8 @@ pub struct Shape {
     pub width: usize,
 }
 
-// How many nodes the uppermost level that is kept has, at most: a search goes along so many in a few dozen steps, sixteen nodes at a time, and a tree with no more
-// slots needs no other nodes.
+// How many nodes the uppermost level that is kept has, at most: a compiler compares many side by side at once, so that a search goes along all of them in a few
+// dozen steps, and a tree with no more slots needs no other nodes.
 const KEPT: usize = 512;
 
 fn kept_for(width: usize) -> usize
@@ -115,25 +117,6 @@ pub fn remove(nodes: &mut [u16], shape: Shape, slot: usize)
     }
 }
 
-// The larger and the smaller of two numbers of levels.
-fn larger(a: usize, b: usize) -> usize
-    ensures { λ r. ⌜ r ≡ max a b ⌝ }
-{
-    if a < b {
-        return b;
-    }
-    a
-}
-
-fn lesser(a: usize, b: usize) -> usize
-    ensures { λ r. ⌜ r ≡ min a b ⌝ }
-{
-    if a < b {
-        return a;
-    }
-    b
-}
-
 // How many levels have a node with x strictly inside: x is a border of a node as long as its trailing zeros last.
 fn levels_inside(levels: usize, x: usize) -> usize
     requires { ⌜ trailingZeros 64 x ≤ levels ⌝ }
@@ -187,8 +170,8 @@ fn narrow(nodes: &[u16], shape: Shape, from: usize, to: usize) -> Span
     Span { left, right, least }
 }
 
-// The smallest of the nodes from `left` up to `right`, and of `least`.
-fn along(nodes: &[u16], left: usize, right: usize, least: Rank) -> Rank
+// The smallest of the nodes from `left` up to `right`, which stand on one level, and of `least`.
+fn level_minimum(nodes: &[u16], left: usize, right: usize, least: Rank) -> Rank
     requires { ⌜ right ≤ length (now nodes) ⌝ }
     ensures { λ r. ⌜ r .0 ≡ min (least .0) (leastOf (nodeAt (now (nodes .entry))) left (right - left)) ⌝ }
 {
@@ -209,7 +192,7 @@ fn range_minimum(nodes: &[u16], shape: Shape, from: usize, to: usize) -> Rank
     ensures { λ r. ⌜ r .0 ≡ smallest (entriesIn (shape .width) (now (nodes .entry))) from to ⌝ }
 {
     let span = narrow(nodes, shape, shape.width + from, shape.width + to);
-    along(nodes, span.left, span.right, span.least)
+    level_minimum(nodes, span.left, span.right, span.least)
 }
 
 // What a lookup answers: the smallest place, FFFF for none, and how many nodes document 01 counts for it.

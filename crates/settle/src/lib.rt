@@ -155,7 +155,7 @@ fn link_children(parents: &[u16], links: &mut [u16; LINKS])
 }
 
 // Numbers the leaves of x and of its descendants from `next` on, and answers the number after its last.
-// Calls go as deep as the tree, so they are kept light: the tree is in the contract alone, and an array is lent as one word.
+// Calls go as deep as the tree of layouts, so they are kept light: the parents are in the contract alone, and an array is lent as one word.
 fn number(links: &[u16; LINKS], x: LayoutNumber, next: u16, tree: &mut [u16; TREE]) -> u16
     requires { ⌜ SomeNumberable (now links) (x .0) next (now tree) ⌝ }
     ensures { λ r. ⌜ EachNumbered inSubtree (now (links .entry)) (x .0) next (now (tree .entry)) r (now (tree .exit)) ⌝ }

@@ -1,4 +1,4 @@
-// *Settle layouts* (document 01, "Settle layouts"): depth, first leaf and last leaf of each layout, in lent results.
+// *Settle layouts* (document 01, "What each operation turns away"): depth, first leaf and last leaf of each layout, in lent results.
 use model::Refusal;
 use model::Settled;
 use settle::DEPTH;

@@ -140,16 +140,3 @@ stretch-cases P xs ys first second none = by (startsIn xs ys) (startsIn ys xs)
     by true b = first
     by false true = second
     by false false = none
-
--- ---- worked: nothing shared; the first list begins; the second begins; only the first place counts; either could begin; an empty list
-
-pub stretch-examples :
-    (stretchOf (1 ∷ 2 ∷ []) (3 ∷ 4 ∷ []) ≡ ofFirst 0)
-    × (stretchOf (3 ∷ 4 ∷ 5 ∷ []) (1 ∷ 3 ∷ 4 ∷ 6 ∷ []) ≡ ofFirst 2)
-    × (stretchOf (1 ∷ 3 ∷ 4 ∷ 6 ∷ []) (3 ∷ 4 ∷ 5 ∷ []) ≡ ofSecond 2)
-    × (stretchOf (1 ∷ 2 ∷ 3 ∷ []) (1 ∷ 9 ∷ 1 ∷ 2 ∷ 3 ∷ []) ≡ ofFirst 1)
-    × (stretchOf (1 ∷ 2 ∷ []) (2 ∷ 1 ∷ []) ≡ ofFirst 1)
-    × (stretchOf [] (1 ∷ []) ≡ ofFirst 0)
-    × (stretchOf (1 ∷ []) [] ≡ ofFirst 0)
-unfolding stretchOf startsIn leading indexOf agreement
-stretch-examples = (refl, refl, refl, refl, refl, refl, refl)

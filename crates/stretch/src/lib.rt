@@ -1,4 +1,4 @@
-// The shared stretch of two lists of layout numbers (document 01, "Shared stretch"), handed back as a part of the list that it begins.
+// The shared stretch of two lists of layout numbers (document 01, "What each operation turns away"), handed back as a part of the list that it begins.
 use model::LayoutNumber;
 ghost use mathlib.Core.Path.{_≡_};
 ghost use Rattle.model.specs.Stretch.{agreement, leading, StretchOutcome};

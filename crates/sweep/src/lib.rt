@@ -1,7 +1,7 @@
 // The sweep over a schedule (000, Algorithm 2): each place still free at its turn takes the smallest place that waits in the span that it asks for. It
 // knows places, slots and spans of slots; no tree of layouts, layout or job.
 use model::Rank;
-use schedule::TREE;
+use schedule::NODES;
 use segment_tree::Found;
 use segment_tree::Shape;
 ghost use mathlib.Core.Path.{_≡_};
@@ -34,7 +34,7 @@ fn insert_place(work: &mut [u16], count: usize, shape: Shape, place: Rank)
     ensures { λ r. ⌜ TreeChanged count (shape .kept) (shape .width) (insertEntry (getD (now (work .entry)) (slotPart * count + place .0) 0) (place .0) (entriesIn (shape .width) (treeIn count (now (work .entry))))) (now (work .entry)) (now (work .exit)) ⌝ }
 {
     let slot = schedule::slot_at(work, count, place);
-    let start = TREE * count;
+    let start = NODES * count;
     segment_tree::insert(&mut work[start..], shape, slot, place);
 }
 
@@ -44,7 +44,7 @@ fn remove_place(work: &mut [u16], count: usize, shape: Shape, place: Rank)
     ensures { λ r. ⌜ TreeChanged count (shape .kept) (shape .width) (removeEntry (getD (now (work .entry)) (slotPart * count + place .0) 0) (entriesIn (shape .width) (treeIn count (now (work .entry))))) (now (work .entry)) (now (work .exit)) ⌝ }
 {
     let slot = schedule::slot_at(work, count, place);
-    let start = TREE * count;
+    let start = NODES * count;
     segment_tree::remove(&mut work[start..], shape, slot);
 }
 
@@ -93,7 +93,7 @@ fn find_mate(work: &[u16], count: usize, shape: Shape, place: Rank, from: usize,
 {
     let slot = slot_after(work, count, place);
     let next = place.next();
-    let start = TREE * count;
+    let start = NODES * count;
     segment_tree::lookup(&work[start..], shape, from, to, slot, next)
 }
 
@@ -167,7 +167,7 @@ pub fn sweep(work: &mut [u16], count: usize) -> Matched
     ensures { λ r. ⌜ Swept count (now (work .entry)) (r .pairs) (r .visits) (now (work .exit)) ⌝ }
 {
     let shape = segment_tree::shape_for(count);
-    let start = TREE * count;
+    let start = NODES * count;
     segment_tree::clear(&mut work[start..], shape);
     let mut progress = Progress {
         next: 0,

@@ -1,6 +1,5 @@
 -- How many work cells a sweep needs: six parts of one cell for each place, and a segment tree of twice the power of two that holds them.
 use Prim.Native.Nat.{ℕ, _+_, _*_, _^_, _≤_}
-use mathlib.Core.Path.{_≡_}
 use native.Mathlib.Omega.{arith}
 use lib.Pow.{pow-mono}
 use Rattle.model.specs.Visits.{levels}

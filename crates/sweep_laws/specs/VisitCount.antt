@@ -1,7 +1,6 @@
--- How a lookup counts the cells that it visits without going down to them: an end of the span lies strictly inside a cell of a level exactly if the cells'
+-- How the cells that document 01 counts for a lookup are counted without going down to them: an end of the span lies strictly inside a cell of a level exactly if the cells'
 -- width does not divide it.
 use Prim.Native.Nat.{ℕ, _-_, _^_, _<_, _≤_, min, max}
-use mathlib.Core.Path.{_≡_}
 use lib.Bits.{bitXor}
 use lib.Count.{leadingZeros, trailingZeros}
 

@@ -6,10 +6,9 @@ use mathlib.Core.Logic.{inl, inr}
 use native.Mathlib.Nat.{add-zero, add-suc, sub-zero, zero-add, zero-mul, two-pow-succ, mul-add, add-mul, two-mul, one-mul, mul-one, pow-zero}
 use native.Mathlib.Omega.{arith}
 use native.Mathlib.Decide.{ℕ-discrete, decLe, decLt}
-use lib.Dec.{leb}
 use lib.Pow.{pow-pos}
 use lib.Count.{trailingZeros}
-use borrow.Author.Tests.{le-leb, lt-leb}
+use borrow.Author.Tests.{lt-leb}
 use Rattle.model.specs.Visits.{cellVisits, visits}
 use Rattle.sweep_laws.specs.VisitCount.{levelsInside}
 use Rattle.sweep_laws.specs.VisitBound.{visits-inside, visits-before, visits-past, visits-halves}

@@ -1,5 +1,5 @@
 -- The parts put together: the lines read, their jobs checked, and the outcome of the whole.
-use Prim.Native.Nat.{ℕ, _+_, _-_, _*_, _≤_, _<_}
+use Prim.Native.Nat.{ℕ, _+_, _-_, _≤_, _<_}
 use mathlib.Core.Path.{_≡_, refl, sym, ap, _∙_}
 use mathlib.Core.Bool.{Bool, true, false, not, _||_}
 use mathlib.Core.List.{List, [], _∷_, _++_, map, foldr, List·Memᴰ as Mem, List·Memᴰ·head as here, List·Memᴰ·tail as there}

@@ -14,7 +14,6 @@ ghost use Prim.Native.Nat.{_+_, _<_, _≤_};
 ghost use lib.ListN.{length};
 ghost use Rattle.model.specs.Verdict.{accepted, refuseIf};
 ghost use Rattle.model.specs.Tree.{layoutLimit, layoutsFrom};
-ghost use Rattle.model.specs.Jobs.{jobLimit};
 ghost use Rattle.model.specs.Table.{readTable, buffersVerdict};
 ghost use Rattle.model.specs.Outcomes.{ReadAs, ReadOutcome};
 ghost use Rattle.settle.specs.Spanned.{treeCells, Spanned};

@@ -6,4 +6,3 @@ pub mod Leaves
 pub mod Spans
 pub mod Sharing
 pub mod Deepest
-pub mod Branches

@@ -1,10 +1,8 @@
--- The span of a layout, from its first leaf to its last: nested from ancestor to descendant, disjoint at one depth; and by it the test for ancestors.
-use Prim.Native.Nat.{ℕ, suc, _+_, _≤_, _<_, max}
+-- The span of a layout, from its first leaf to its last: nested from ancestor to descendant; and by it the test for ancestors.
+use Prim.Native.Nat.{ℕ, suc, _+_, _≤_, _<_}
 use mathlib.Core.Path.{_≡_, ap, _∙_}
 use mathlib.Core.Bool.{Bool, true, _&&_, and-eq-true-iff}
-use mathlib.Core.Logic.{_⊎_, inl, inr, _≢_}
 use mathlib.Core.List.{List, _++_, append-assoc, List·Memᴰ as Mem}
-use native.Mathlib.Decide.{decLt, decLe}
 use native.Mathlib.Omega.{arith}
 use lib.ListN.{length, getD, length-append}
 use lib.Dec.{leb}
@@ -13,7 +11,7 @@ use Rattle.model.specs.Tree.{ancestorOrSelf, depth, leaves, firstLeaf, lastLeaf
 use Rattle.laws.specs.Lists.{piece-mem}
 use Rattle.laws.specs.Booleans.{same-test}
 use Rattle.tree_laws.specs.WellFormed.{Tree}
-use Rattle.tree_laws.specs.Ancestors.{AncestorOrSelf, self, ancestor-le, ancestor-depth, ancestor-linear, ancestor-same, ancestor-true, true-ancestor}
+use Rattle.tree_laws.specs.Ancestors.{AncestorOrSelf, ancestor-le, ancestor-depth, ancestor-linear, ancestor-true, true-ancestor}
 use Rattle.tree_laws.specs.Leaves.{leaves-nonempty, leaf-ancestor, part-of, segment, first-at, last-at, last-is}
 
 -- leaf number k lies in the span of x
@@ -62,26 +60,6 @@ module _ (ps : List ℕ) (t : Tree ps) where
       let leaf : ℕ = getD (leaves ps 0) k 0 in
       ancestor-linear ps t (leaf-ancestor ps t u h leaf (span-leaf h i) .0) (leaf-ancestor ps t x j leaf (span-leaf j i′) .0) d
 
-  -- two layouts at one depth whose spans meet are one
-  pub spans-same : {k u x : ℕ} → u < length ps → x < length ps → InSpan ps k u → InSpan ps k x → depth ps u ≡ depth ps x → u ≡ x
-  spans-same h j i i′ d = ancestor-same ps t (spans-meet h j i i′ (omega arith)) self d
-
-  -- two layouts at one depth have disjoint spans: otherwise the later of the two first leaves is in both
-  pub disjoint : (u x : ℕ) → u < length ps → x < length ps → depth ps u ≡ depth ps x → u ≢ x → (lastLeaf ps u < firstLeaf ps x) ⊎ (lastLeaf ps x < firstLeaf ps u)
-  disjoint u x h j d differ = elim (decLt (lastLeaf ps u) (firstLeaf ps x)) [
-    | yes l ↦ inl l
-    | no meet ↦ inr (elim (decLt (lastLeaf ps x) (firstLeaf ps u)) [
-      | yes l ↦ l
-      | no meet′ ↦ absurd (differ (spans-same {k = max (firstLeaf ps u) (firstLeaf ps x)} h j (both-u meet meet′) (both-x meet meet′) d))
-    ])
-  ]
-    where
-      both-u : ¬ (lastLeaf ps u < firstLeaf ps x) → ¬ (lastLeaf ps x < firstLeaf ps u) → InSpan ps (max (firstLeaf ps u) (firstLeaf ps x)) u
-      both-u meet meet′ = record { first = omega arith; last = omega (arith, first-le-last u h) }
-
-      both-x : ¬ (lastLeaf ps u < firstLeaf ps x) → ¬ (lastLeaf ps x < firstLeaf ps u) → InSpan ps (max (firstLeaf ps u) (firstLeaf ps x)) x
-      both-x meet meet′ = record { first = omega arith; last = omega (arith, first-le-last x j) }
-
   -- (A) an ancestor of x has the first leaf of x in its span and is no deeper
   pub ancestor-span : {u x : ℕ} → x < length ps → AncestorOrSelf ps u x → InSpan ps (firstLeaf ps x) u × (depth ps u ≤ depth ps x)
   ancestor-span {u} {x} h a = (record { first = nested h a .0; last = omega (arith, nested h a .1, first-le-last x h) }, ancestor-depth ps t a)
@@ -96,21 +74,3 @@ module _ (ps : List ℕ) (t : Tree ps) where
   ancestor-test u x h j = same-test (ancestorOrSelf ps u x) (inSpan ps (firstLeaf ps x) u (depth ps u) (depth ps x))
       (λ e. let s = ancestor-span j (ancestor-true ps t u x e) in true-in-span ps (firstLeaf ps x) u (depth ps u) (depth ps x) (s .0) (s .1))
       (λ e. let s = in-span-true ps (firstLeaf ps x) u (depth ps u) (depth ps x) e in true-ancestor ps t (span-ancestor h j (s .0) (s .1)))
-
-  -- ---- common ancestors by first leaves
-
-  -- of two layouts with one first leaf the one that is no deeper is an ancestor of the other, or the same
-  pub one-first-leaf : {u x : ℕ} → u < length ps → x < length ps → firstLeaf ps u ≡ firstLeaf ps x → depth ps u ≤ depth ps x → AncestorOrSelf ps u x
-  one-first-leaf {u} {x} h j e d = span-ancestor h j (record { first = omega arith; last = omega (arith, first-le-last u h) }) d
-
-  -- an ancestor of x that has leaves as far as the first one of y, which lies further right than that of x, is one of y: y is no ancestor of it, as that would put the first leaf of y left of that of x
-  pub reaching-ancestor : {u x y : ℕ} → x < length ps → y < length ps → firstLeaf ps x < firstLeaf ps y → AncestorOrSelf ps u x → firstLeaf ps y ≤ lastLeaf ps u → AncestorOrSelf ps u y
-  reaching-ancestor {u} {x} {y} h j right a reach =
-      let known : u < length ps = omega (arith, ancestor-le ps t a) in
-      let above : firstLeaf ps u ≤ firstLeaf ps x = nested h a .0 in
-      let in-u : InSpan ps (firstLeaf ps y) u = record { first = omega arith; last = reach } in
-      let in-y : InSpan ps (firstLeaf ps y) y = record { first = omega arith; last = first-le-last y j } in
-      elim (decLe (depth ps u) (depth ps y)) [
-        | yes d ↦ spans-meet known j in-u in-y d
-        | no d ↦ let outside : ⊥ = omega (arith, nested known (spans-meet j known in-y in-u (omega arith)) .0) in absurd outside
-      ]

@@ -8,7 +8,7 @@ use native.Mathlib.Decide.{decLt}
 use native.Mathlib.Omega.{arith}
 use lib.ListN.{length, getD, List·getD-eq-default}
 use borrow.Author.Tests.{ltb-true, eqb-true}
-use Rattle.model.specs.Verdict.{accepted, _then_}
+use Rattle.model.specs.Verdict.{accepted}
 use Rattle.model.specs.Tree.{FFFF, layoutLimit, rightParent, layoutsFrom, treeVerdict}
 use Rattle.laws.specs.Verdicts.{passed}
 

@@ -1,6 +1,5 @@
 -- `frame::digit_value` meets its contract: the table holds it.
 use Rattle.frame.proofs.Digits.{read-small}
-use mathlib.Core.Path.{_∙_}
 use native.Mathlib.Omega.{arith}
 use borrow.Author.Needs.{needs}
 use Rattle.frame.proofs.digit_value.Statement.{statement}

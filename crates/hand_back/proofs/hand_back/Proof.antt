@@ -4,14 +4,13 @@ use mathlib.Core.Path.{_≡_, refl, sym, _∙_}
 use mathlib.Core.List.{List}
 use lib.ListN.{length}
 use Rattle.model.specs.Jobs.{Table}
-use Rattle.ancestry.specs.SparseTable.{Minima, Searchable}
+use Rattle.ancestry.specs.SparseTable.{Minima}
 use Rattle.ancestry.specs.Room.{roomy-all}
 use Rattle.passes.specs.PlanPass.{Plan, jobs-are, plan-cells}
 use Rattle.hand_back.specs.HandBack.{HandedBack, handed-none, plan-inside, plan-more, plan-returned}
 use borrow.Author.Needs.{needs}
 use Rattle.hand_back.proofs.hand_back.Statement.{statement}
 use Rattle.hand_back.proofs.hand_back.Tie as tie
-use Rattle.passes.proofs.pass_at.Reads as pass-at-reads
 
 -- the first k passes are handed back, whatever table the plan is of
 record Underway (parents tree bottoms work : List ℕ) (count : ℕ) (minima partners printed : List ℕ) (k : ℕ) : Type 0 where

@@ -1,5 +1,4 @@
 -- `hand_back::write_pass` meets its contract: the cells of its jobs are set.
-use mathlib.Core.Path.{_∙_}
 use native.Mathlib.Omega.{arith}
 use borrow.Author.Needs.{needs}
 use Rattle.hand_back.proofs.write_pass.Statement.{statement}

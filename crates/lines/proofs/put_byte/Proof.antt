@@ -1,6 +1,5 @@
 -- `lines::put_byte` meets its contract: a store appends the byte.
 use Rattle.lines.specs.Writing.{appended-byte}
-use native.Mathlib.Omega.{arith}
 use borrow.Author.Needs.{needs}
 use Rattle.lines.proofs.put_byte.Statement.{statement}
 use Rattle.lines.proofs.put_byte.Tie as tie

@@ -1,6 +1,5 @@
 -- `lines::put_eight` meets its contract: the upper four digits and then the lower four.
 use Rattle.lines.specs.Writing.{eight-appended}
-use native.Mathlib.Omega.{arith}
 use borrow.Author.Needs.{needs}
 use Rattle.lines.proofs.put_eight.Statement.{statement}
 use Rattle.lines.proofs.put_eight.Tie as tie

@@ -1,6 +1,5 @@
 -- `lines::put_four` meets its contract: the upper two digits and then the lower two.
 use Rattle.lines.specs.Writing.{four-appended}
-use native.Mathlib.Omega.{arith}
 use borrow.Author.Needs.{needs}
 use Rattle.lines.proofs.put_four.Statement.{statement}
 use Rattle.lines.proofs.put_four.Tie as tie

@@ -1,6 +1,5 @@
 -- `lines::put_kind` meets its contract: the two digits are appended one after the other.
 use Rattle.lines.specs.Writing.{appended-then}
-use native.Mathlib.Omega.{arith}
 use borrow.Author.Needs.{needs}
 use Rattle.lines.proofs.put_kind.Statement.{statement}
 use Rattle.lines.proofs.put_kind.Tie as tie

@@ -1,6 +1,5 @@
 -- `lines::put_pair` meets its contract: the fields are appended one after the other.
 use Rattle.lines.specs.Writing.{pair-appended}
-use native.Mathlib.Omega.{arith}
 use borrow.Author.Needs.{needs}
 use Rattle.lines.proofs.put_pair.Statement.{statement}
 use Rattle.lines.proofs.put_pair.Tie as tie

@@ -1,6 +1,5 @@
 -- `lines::put_refusal` meets its contract: the fields are appended one after the other.
 use Rattle.lines.specs.Writing.{refusal-appended}
-use native.Mathlib.Omega.{arith}
 use borrow.Author.Needs.{needs}
 use Rattle.lines.proofs.put_refusal.Statement.{statement}
 use Rattle.lines.proofs.put_refusal.Tie as tie

@@ -1,6 +1,5 @@
 -- `lines::put_single` meets its contract: the fields are appended one after the other.
 use Rattle.lines.specs.Writing.{single-appended}
-use native.Mathlib.Omega.{arith}
 use borrow.Author.Needs.{needs}
 use Rattle.lines.proofs.put_single.Statement.{statement}
 use Rattle.lines.proofs.put_single.Tie as tie

@@ -1,6 +1,5 @@
 -- `lines::put_totals` meets its contract: the fields are appended one after the other.
 use Rattle.lines.specs.Writing.{totals-appended}
-use native.Mathlib.Omega.{arith}
 use borrow.Author.Needs.{needs}
 use Rattle.lines.proofs.put_totals.Statement.{statement}
 use Rattle.lines.proofs.put_totals.Tie as tie

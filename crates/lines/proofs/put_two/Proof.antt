@@ -1,6 +1,5 @@
 -- `lines::put_two` meets its contract: each half of the byte is a digit.
 use Rattle.lines.specs.Writing.{two-appended}
-use native.Mathlib.Omega.{arith}
 use borrow.Author.Needs.{needs}
 use Rattle.lines.proofs.put_two.Statement.{statement}
 use Rattle.lines.proofs.put_two.Tie as tie

@@ -6,8 +6,6 @@ use native.Mathlib.Omega.{arith}
 use borrow.Author.Needs.{needs}
 use Rattle.passes.proofs.make_passes.Statement.{statement}
 use Rattle.passes.proofs.make_passes.Tie as tie
-use Rattle.prepare.proofs.prepare.Reads as prepare-reads
-use Rattle.sweep.proofs.sweep.Reads as sweep-reads
 
 prepare-requires : tie.Need-prepare-requires
 prepare-requires c κs = let s = c .before .before .before .before .before .before in (s .pre .0, (s .pre .1 .0, omega (arith, s .pre .1 .1)))

@@ -3,7 +3,6 @@ use mathlib.Core.Path.{refl}
 use borrow.Author.Needs.{needs}
 use Rattle.passes.proofs.pair_of.Statement.{statement}
 use Rattle.passes.proofs.pair_of.Tie as tie
-use Rattle.ancestry.proofs.lowest_common_ancestor.Reads as lowest-common-ancestor-reads
 
 bottom-of-requires : tie.Need-bottom-of-requires
 bottom-of-requires c κs = search needs

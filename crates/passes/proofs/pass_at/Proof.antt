@@ -1,5 +1,5 @@
 -- `passes::pass_at` meets its contract: the opener has a mate or none.
-use mathlib.Core.Path.{_≡_, refl, sym, _∙_}
+use mathlib.Core.Path.{sym, _∙_}
 use mathlib.Core.List.{List}
 use Prim.Native.Nat.{ℕ}
 use borrow.Author.Needs.{needs}
@@ -7,9 +7,6 @@ use borrow.Author.Tests.{eqb-true, eqb-false}
 use Rattle.passes.specs.Read.{PairCells, PassCells}
 use Rattle.passes.proofs.pass_at.Statement.{statement}
 use Rattle.passes.proofs.pass_at.Tie as tie
-use Rattle.schedule.proofs.job_at.Reads as job-at-reads
-use Rattle.schedule.proofs.mate_at.Reads as mate-at-reads
-use Rattle.schedule.proofs.opener_at.Reads as opener-at-reads
 
 opener-at-requires : tie.Need-opener-at-requires
 opener-at-requires c κs = c .before .before .before .pre .2 .opener-inside

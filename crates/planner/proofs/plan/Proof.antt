@@ -10,8 +10,6 @@ use Rattle.jobs.specs.PlanVerdict.{unequal-bottoms, unequal-marks, short-partne
 use borrow.Author.Needs.{needs}
 use Rattle.planner.proofs.plan.Statement.{statement}
 use Rattle.planner.proofs.plan.Tie as tie
-use Rattle.settle.proofs.check_layouts.Reads as check-layouts-reads
-use Rattle.settle.proofs.settle_tree.Reads as settle-tree-reads
 
 -- the buffers are as they should be
 lent-of : (c : tie.Else5) → Lent (tableOf (c .before .before .before .before .before .before .before .before .before .before .before .before .args .parents .now) (c .before .before .before .before .before .before .before .before .before .before .before .before .args .tops .now) (c .before .before .before .before .before .before .before .before .before .before .before .before .args .bottoms .now) (c .before .before .before .before .before .before .before .before .before .before .before .before .args .marks .now)) (length (c .before .before .before .before .before .before .before .before .before .before .before .before .args .partners .now)) (length (c .before .before .before .before .before .before .before .before .before .before .before .before .args .printed .now)) (length (c .before .before .before .before .before .before .before .before .before .before .before .before .args .work .now))

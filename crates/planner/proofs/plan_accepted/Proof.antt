@@ -5,8 +5,6 @@ use native.Mathlib.Omega.{arith}
 use borrow.Author.Needs.{needs}
 use Rattle.planner.proofs.plan_accepted.Statement.{statement}
 use Rattle.planner.proofs.plan_accepted.Tie as tie
-use Rattle.buffers.proofs.fill.Reads as fill-reads
-use Rattle.passes.proofs.make_passes.Reads as make-passes-reads
 
 make-passes-requires : tie.Need-make-passes-requires
 make-passes-requires c κs = let s = c .before .before .before .before .before .before .before .before in (s .pre .0, (s .pre .1 .0, enough _ (s .args .work .now) (s .pre .0 .few) (s .pre .1 .1 .work-length)))

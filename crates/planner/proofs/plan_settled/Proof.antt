@@ -6,7 +6,6 @@ use Rattle.planner.specs.Planned.{refused-job, right, room, planned-as}
 use borrow.Author.Needs.{needs}
 use Rattle.planner.proofs.plan_settled.Statement.{statement}
 use Rattle.planner.proofs.plan_settled.Tie as tie
-use Rattle.jobs.proofs.check_jobs.Reads as check-jobs-reads
 
 check-jobs-requires : tie.Need-check-jobs-requires
 check-jobs-requires c κs = search needs

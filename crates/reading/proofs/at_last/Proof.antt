@@ -1,8 +1,8 @@
 -- `reading::at_last` meets its contract: an end was read or none.
-use Prim.Native.Nat.{ℕ, zero, suc, _+_}
+use Prim.Native.Nat.{ℕ, zero, suc}
 use mathlib.Core.Path.{_≡_, refl}
 use mathlib.Core.Bool.{cond}
-use Rattle.model.specs.Verdict.{Verdict, accepted, refused}
+use Rattle.model.specs.Verdict.{Verdict, accepted}
 use Rattle.reading.specs.Steps.{endedAt}
 use mathlib.Core.Path.{refl}
 use borrow.Author.Needs.{needs}

@@ -7,7 +7,6 @@ use Rattle.reading.specs.Lines.{no-frame-read, step-by-frame}
 use borrow.Author.Needs.{needs}
 use Rattle.reading.proofs.next_step.Statement.{statement}
 use Rattle.reading.proofs.next_step.Tie as tie
-use Rattle.frame.proofs.read_frame.Reads as read-frame-reads
 
 line-number-requires : tie.Need-line-number-requires
 line-number-requires c κs = search needs

@@ -1,6 +1,6 @@
 -- `reading::read_unchecked` meets its contract: each line makes its step, and the cells hold what was read so far.
 use Prim.Native.Nat.{ℕ, _+_, _-_}
-use mathlib.Core.Path.{_≡_, refl, subst, _∙_}
+use mathlib.Core.Path.{_≡_, refl, subst}
 use mathlib.Core.List.{List}
 use lib.ListN.{length, length-set}
 use lib.Seq.{length-take-le}
@@ -11,7 +11,6 @@ use borrow.Author.Needs.{needs}
 use native.Mathlib.Omega.{arith}
 use Rattle.reading.proofs.read_unchecked.Statement.{statement}
 use Rattle.reading.proofs.read_unchecked.Tie as tie
-use Rattle.frame.proofs.digit_values.Reads as digit-values-reads
 
 -- the cells keep their lengths and hold what was read so far
 record Reading (bytes parents₀ tops₀ bottoms₀ marks₀ digits parents tops bottoms marks : List ℕ) (at layouts jobs ends : ℕ) : Type 0 where

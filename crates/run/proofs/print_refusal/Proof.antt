@@ -5,8 +5,6 @@ use native.Mathlib.Omega.{arith}
 use borrow.Author.Needs.{needs}
 use Rattle.run.proofs.print_refusal.Statement.{statement}
 use Rattle.run.proofs.print_refusal.Tie as tie
-use Rattle.lines.proofs.clear_from.Reads as clear-from-reads
-use Rattle.lines.proofs.put_refusal.Reads as put-refusal-reads
 
 put-refusal-requires : tie.Need-put-refusal-requires
 put-refusal-requires c κs = (refl, omega (arith, c .before .before .before .pre))

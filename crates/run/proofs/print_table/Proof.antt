@@ -2,7 +2,6 @@
 use borrow.Author.Needs.{needs}
 use Rattle.run.proofs.print_table.Statement.{statement}
 use Rattle.run.proofs.print_table.Tie as tie
-use Rattle.passes.proofs.make_passes.Reads as make-passes-reads
 
 make-passes-requires : tie.Need-make-passes-requires
 make-passes-requires c κs = let p = c .before .before .before .before .before .before .before .pre in (p .0, (p .1 .0, p .1 .1 .0))

@@ -7,7 +7,6 @@ use Rattle.run.specs.Whole.{run-ready, refusal-printed, work-roomy, plan
 use borrow.Author.Needs.{needs}
 use Rattle.run.proofs.run_in.Statement.{statement}
 use Rattle.run.proofs.run_in.Tie as tie
-use Rattle.table.proofs.read_lines.Reads as read-lines-reads
 
 -- the table is in the arrays
 held-of : (c : tie.After-known-told2)

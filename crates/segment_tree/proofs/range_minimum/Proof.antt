@@ -13,12 +13,12 @@ add-narrow-2 c = omega (arith, c .before .before .before .pre .0 .room, c .befor
 narrow-requires : tie.Need-narrow-requires
 narrow-requires c κs = slots-narrowable _ _ _ (c .before .before .before .pre .0) _ _ (c .before .before .before .pre .1 .0) (c .before .before .before .pre .1 .1)
 
-along-requires : tie.Need-along-requires
-along-requires c κs = omega (arith, c .narrow .ensures .within, c .before .before .before .before .pre .0 .room)
+level-minimum-requires : tie.Need-level-minimum-requires
+level-minimum-requires c κs = omega (arith, c .narrow .ensures .within, c .before .before .before .before .pre .0 .room)
 
 returns : tie.Need-returns
-returns c = narrowed-smallest _ _ _ (c .before .before .before .before .before .pre .0) _ _ _ _ _ _ (c .before .before .before .before .before .pre .1 .1) (c .before .narrow .ensures) (c .along .ensures)
+returns c = narrowed-smallest _ _ _ (c .before .before .before .before .before .pre .0) _ _ _ _ _ _ (c .before .before .before .before .before .pre .1 .1) (c .before .narrow .ensures) (c .level-minimum .ensures)
 
 pub range-minimum-spec : {M : Type 1} → statement M
 range-minimum-spec =
-    tie.close (tie.spec add-narrow add-narrow-2 narrow-requires along-requires returns)
+    tie.close (tie.spec add-narrow add-narrow-2 narrow-requires level-minimum-requires returns)

@@ -5,7 +5,6 @@ use mathlib.Core.Path.{sym, _∙_}
 use borrow.Author.Needs.{needs}
 use Rattle.table.proofs.read_lines.Statement.{statement}
 use Rattle.table.proofs.read_lines.Tie as tie
-use Rattle.jobs.proofs.check_jobs.Reads as check-jobs-reads
 
 read-unchecked-requires : tie.Need-read-unchecked-requires
 read-unchecked-requires c κs = c .before .before .before .before .before .before .before .before .before .pre .0

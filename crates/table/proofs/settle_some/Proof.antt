@@ -3,7 +3,6 @@ use Rattle.table.specs.Whole.{right-tree}
 use native.Mathlib.Omega.{arith}
 use Rattle.table.proofs.settle_some.Statement.{statement}
 use Rattle.table.proofs.settle_some.Tie as tie
-use Rattle.settle.proofs.settle_tree.Reads as settle-tree-reads
 
 returns : tie.Need-returns
 returns c = λ h. absurd (omega (arith, c .if1 .taken))

@@ -6,8 +6,6 @@ use native.Mathlib.Omega.{arith}
 use borrow.Author.Needs.{needs}
 use Rattle.run.proofs.print.print_plan.Statement.{statement}
 use Rattle.run.proofs.print.print_plan.Tie as tie
-use Rattle.lines.proofs.clear_from.Reads as clear-from-reads
-use Rattle.lines.proofs.put_totals.Reads as put-totals-reads
 
 cast-count : tie.Need-cast-count
 cast-count c = search needs

@@ -2,8 +2,6 @@
 use borrow.Author.Needs.{needs}
 use Rattle.run.proofs.print.put_pass.Statement.{statement}
 use Rattle.run.proofs.print.put_pass.Tie as tie
-use Rattle.lines.proofs.put_pair.Reads as put-pair-reads
-use Rattle.lines.proofs.put_single.Reads as put-single-reads
 
 enum-known-pass : tie.Need-enum-known-pass
 enum-known-pass c = search needs

@@ -10,7 +10,6 @@ use borrow.Author.Needs.{needs}
 use native.Mathlib.Omega.{arith}
 use Rattle.run.proofs.print.put_passes.Statement.{statement}
 use Rattle.run.proofs.print.put_passes.Tie as tie
-use Rattle.passes.proofs.pass_at.Reads as pass-at-reads
 
 -- the lines of the first k passes stand there, whatever table the plan is of
 record Underway (tree minima bottoms work : List ℕ) (count : ℕ) (out₀ out : List ℕ) (at k : ℕ) : Type 0 where

@@ -1,5 +1,5 @@
 -- `run::print::put_plan` meets its contract: the array that is taken has room for the minima.
-use mathlib.Core.Path.{refl, sym, _∙_}
+use mathlib.Core.Path.{refl}
 use borrow.Author.Needs.{needs}
 use native.Mathlib.Omega.{arith}
 use Rattle.ancestry.specs.Room.{roomy-all, roomy-few}

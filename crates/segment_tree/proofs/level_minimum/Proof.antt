@@ -3,8 +3,8 @@ use borrow.Author.Needs.{needs}
 use native.Mathlib.Omega.{arith}
 use Prim.Native.Nat.{_-_}
 use Rattle.sweep_laws.specs.NodeSpans.{Along, along-first, along-next, along-all}
-use Rattle.segment_tree.proofs.along.Statement.{statement}
-use Rattle.segment_tree.proofs.along.Tie as tie
+use Rattle.segment_tree.proofs.level_minimum.Statement.{statement}
+use Rattle.segment_tree.proofs.level_minimum.Tie as tie
 
 abbrev Inv-loop : tie.InvT-loop
 Inv-loop nodes left right least at₀ answer at = Along nodes left right (least .0) at (answer .0)
@@ -36,8 +36,8 @@ loop-again c = rw (c .smaller .ensures) (along-next _ _ _ _ _ _ (c .before .befo
 returns : tie.Need-returns Inv-loop μ-loop
 returns c = along-all _ _ _ _ _ _ (c .loop-test .left) (c .before .loop .inv)
 
-pub along-spec : {M : Type 1} → statement M
-along-spec =
+pub level-minimum-spec : {M : Type 1} → statement M
+level-minimum-spec =
     tie.close
     (tie.spec
     Inv-loop
