@@ -13,7 +13,7 @@ use Rattle.model.specs.Verdict.{Verdict, accepted, _then_}
 use Rattle.model.specs.Tree.{ancestorOrSelf}
 use Rattle.model.specs.Jobs.{Table, tableOf, jobs, top, bottom, jobVerdict}
 use Rattle.model.specs.Planning.{jobsVerdict}
-use Rattle.model.specs.declared.Refusal.{Refusal}
+use Rattle.model.specs.declared.JobNumber.{JobNumber}
 use Rattle.settle.specs.Spanned.{Spanned}
 use Rattle.jobs.specs.declared.JobCheck.the-variants.{Right, Wrong}
 use Rattle.jobs.specs.Checks.{JobChecked, JobsChecked, numberVerdict}
@@ -88,5 +88,5 @@ module _ (layouts : ℕ) (tops bottoms cells : List ℕ) where
     pub one-more : number ≡ 0 → RightBelow (j + 1)
     one-more none = record { within = omega arith; verdict = λ ps marks e s. checked ps marks e s ∙ rw (eq-eqb number 0 none) }
 
-    pub wrong-job : (number ≡ 0 → ⊥) → (r : Refusal) → r .number ≡ number → r .place ≡ j → JobsChecked layouts tops bottoms cells (Wrong r)
-    wrong-job some r n p = record { verdict = λ ps marks e s. checked ps marks e s ∙ rw (ne-eqb number 0 some, n, p) }
+    pub wrong-job : (number ≡ 0 → ⊥) → (job : JobNumber) → job .0 ≡ j → JobsChecked layouts tops bottoms cells (Wrong number job)
+    wrong-job some job is = record { verdict = λ ps marks e s. checked ps marks e s ∙ rw (ne-eqb number 0 some, is) }

@@ -15,7 +15,7 @@ use Rattle.jobs.specs.declared.JobCheck.the-variants.{Right, Wrong}
 -- the verdict of each case
 abbrev pub checkVerdict : JobCheck → Verdict
 checkVerdict Right = accepted
-checkVerdict (Wrong r) = refused (r .number) (r .place)
+checkVerdict (Wrong number job) = refused number (job .0)
 
 -- the verdict that a refusal's number stands for, with 0 for none
 abbrev pub numberVerdict : ℕ → ℕ → Verdict

@@ -1,7 +1,6 @@
 // The jobs of a table: their tops and bottoms, and whether they can be planned (document 01, "What each operation turns away", refusals 5 and 6).
 use model::JobNumber;
 use model::LayoutNumber;
-use model::Refusal;
 use settle::TREE;
 ghost use Prim.Native.Nat.{_<_, _≤_};
 ghost use mathlib.Core.Path.{_≡_};
@@ -28,10 +27,10 @@ pub fn bottom_of(bottoms: &[u16], job: JobNumber) -> LayoutNumber
     LayoutNumber(bottoms[at])
 }
 
-// What checking the jobs answers: all are right, or the refusal of the smallest wrong one.
+// What checking the jobs answers: all are right, or the number of the refusal and the smallest job that is wrong.
 pub enum JobCheck {
     Right,
-    Wrong(Refusal),
+    Wrong(u16, JobNumber),
 }
 
 // The number of one job's refusal: 5, a top or bottom that is no layout; 6, a bottom not at or below its top; 0 for none.
@@ -60,17 +59,10 @@ pub fn check_jobs(tree: &[u16; TREE], layouts: usize, tops: &[u16], bottoms: &[u
 {
     let mut j = 0;
     while j < tops.len() {
-        let number = check_job(
-            tree,
-            layouts,
-            LayoutNumber(tops[j]),
-            LayoutNumber(bottoms[j]),
-        );
+        let job = JobNumber(j as u16);
+        let number = check_job(tree, layouts, top_of(tops, job), bottom_of(bottoms, job));
         if number != 0 {
-            return JobCheck::Wrong(Refusal {
-                number,
-                place: j as u16,
-            });
+            return JobCheck::Wrong(number, job);
         }
         j += 1;
     }

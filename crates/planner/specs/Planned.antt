@@ -12,7 +12,7 @@ use Rattle.model.specs.Planning.{workCells, jobsVerdict}
 use Rattle.model.specs.Answers.{plannedAnswer}
 use Rattle.model.specs.Outcomes.{PlannedAs}
 use Rattle.model.specs.declared.Planned.{Planned}
-use Rattle.model.specs.declared.Refusal.{Refusal}
+use Rattle.model.specs.declared.JobNumber.{JobNumber}
 use Rattle.model.specs.declared.Totals.{Totals}
 use Rattle.model.specs.Planning as Planning
 use Rattle.model.specs.declared.Planned.the-variants as planned
@@ -73,9 +73,8 @@ module _ (tb : Table) (partners printed work : List ℕ) (r : Planned) where
       }
 
 -- the job check refuses
-pub refused-job : (tb : Table) (partners printed work : List ℕ) (c : JobCheck) (g : Refusal) → jobsVerdict tb ≡ checkVerdict c → c ≡ check.Wrong g → PlannedAs (jobsVerdict tb) tb partners printed work (planned.Refused g) partners printed work
-refused-job tb partners printed work c g e is =
-    refused-as tb partners printed work (planned.Refused g) (jobsVerdict tb) (g .number) (g .place) (e ∙ ap checkVerdict is) refl
+pub refused-job : (tb : Table) (partners printed work : List ℕ) (c : JobCheck) (number : ℕ) (job : JobNumber) → jobsVerdict tb ≡ checkVerdict c → c ≡ check.Wrong number job → (r : Planned) → plannedAnswer r ≡ refuses number (job .0) → PlannedAs (jobsVerdict tb) tb partners printed work r partners printed work
+refused-job tb partners printed work c number job e is r a = refused-as tb partners printed work r (jobsVerdict tb) number (job .0) (e ∙ ap checkVerdict is) a
 
 -- the job check accepts
 module _ (ps ts bs ms tree partners printed work : List ℕ) (lent : Lent (tableOf ps ts bs ms) (length partners) (length printed) (length work)) (few : length ts ≤ jobLimit) (s : Spanned ps tree) (c : JobCheck) (e : jobsVerdict (tableOf ps ts bs ms) ≡ checkVerdict c) (is : c ≡ check.Right) where

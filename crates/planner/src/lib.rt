@@ -68,7 +68,7 @@ fn plan_settled(
     let count = tops.len();
     let check = jobs::check_jobs(tree, parents.len(), tops, bottoms);
     match check {
-        JobCheck::Wrong(r) => Planned::Refused(r),
+        JobCheck::Wrong(number, job) => refuse(number, job.0),
         JobCheck::Right => {
             let totals = plan_accepted(
                 parents,

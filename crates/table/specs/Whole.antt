@@ -44,7 +44,7 @@ right-tree (p ∷ ps) h few right = well-formed (p ∷ ps) right few
 -- a refusal of the check names a job
 abbrev pub Answerable : ℕ → ℕ → JobCheck → Type 0
 Answerable n m check.Right = (n ≤ layoutLimit) × (m ≤ jobLimit)
-Answerable n m (check.Wrong r) = (n ≤ layoutLimit) × (r .place ≤ jobLimit)
+Answerable n m (check.Wrong number job) = (n ≤ layoutLimit) × (job .0 ≤ jobLimit)
 
 -- the job that is refused first is one of the list
 first-refused : (f : ℕ → Verdict) (l : List ℕ) (number place : ℕ) → ((j : ℕ) → Mem j l → (n p : ℕ) → f j ≡ refused n p → p < jobLimit) → foldr _then_ accepted (map f l) ≡ refused number place → place < jobLimit
@@ -104,7 +104,7 @@ module _ (bytes parents tops bottoms marks tree : List ℕ) (n m : ℕ) (s : Sto
     where
       go : (x : JobCheck) → jobsVerdict (held parents tops bottoms marks n m) ≡ checkVerdict x → Answerable n m x
       go check.Right e = (l .holds .few-layouts, l .holds .few-jobs)
-      go (check.Wrong r) e = (l .holds .few-layouts, omega (arith, refused-job (held parents tops bottoms marks n m) (rw counted-jobs (l .holds .few-jobs)) (r .number) (r .place) e))
+      go (check.Wrong number job) e = (l .holds .few-layouts, omega (arith, refused-job (held parents tops bottoms marks n m) (rw counted-jobs (l .holds .few-jobs)) number (job .0) e))
 
   -- what the bytes come to
   checked-is : readTable bytes ≡ unlessRefused (onItsLine n (checkVerdict c) then stopVerdict s) (read (held parents tops bottoms marks n m))

@@ -50,9 +50,9 @@ fn answer(lines: Lines, check: JobCheck) -> TableRead
     ensures { λ r. ⌜ answerVerdict (lines .layouts) (lines .jobs) (checkVerdict «check») (stopVerdict (lines .stop)) r ⌝ }
 {
     match check {
-        JobCheck::Wrong(r) => TableRead::Refused(Refusal {
-            number: r.number,
-            place: (lines.layouts + r.place as usize + 1) as u16,
+        JobCheck::Wrong(number, job) => TableRead::Refused(Refusal {
+            number,
+            place: (lines.layouts + job.0 as usize + 1) as u16,
         }),
         JobCheck::Right => {
             let stop = lines.stop;

@@ -8,7 +8,7 @@ enum-known-pass : tie.Need-enum-known-pass
 enum-known-pass c = search needs
 
 set-partners-requires : tie.Need-set-partners-requires
-set-partners-requires c κs = rw (c .before .before .pass .given .1) at (c .before .before .before .before .before .before .pre .0)
+set-partners-requires c κs = let inside = rw (c .before .before .pass .given .1) at (c .before .before .before .before .before .before .pre .0) in (omega (arith, inside), omega (arith, inside))
 
 set-printed-requires : tie.Need-set-printed-requires
 set-printed-requires c κs = let inside = rw (c .before .before .before .before .before .before .pass .given .1) at (c .before .before .before .before .before .before .before .before .before .before .pre .0) in let same = c .before .before .before .before .before .before .before .before .before .before .pre .1 in (omega (arith, inside .0, same), omega (arith, inside .1, same))

@@ -1,7 +1,8 @@
 -- `jobs::check_jobs` meets its contract. The loop's invariant: the verdict on all jobs is that on those from j on.
 use Prim.Native.Nat.{_-_}
 use mathlib.Core.Path.{refl}
-use lib.ListN.{length}
+use lib.ListN.{length, getD}
+use Rattle.jobs.specs.Checks.{JobChecked}
 use Rattle.jobs.proofs.JobVerdicts.{RightBelow, none-checked, one-more, wrong-job, all-checked}
 use borrow.Author.Needs.{needs}
 use native.Mathlib.Omega.{arith}
@@ -14,29 +15,30 @@ Inv-loop tree layouts tops bottoms j₀ j = RightBelow layouts tops bottoms tree
 abbrev μ-loop : tie.MeasureT-loop
 μ-loop tree layouts tops bottoms j₀ j = length tops - j
 
+-- the job at hand, by its cells
+checked : (c : tie.After-check-job Inv-loop μ-loop) →
+    let start = c .before .before .before .before .before .before .before in
+    let j = c .before .before .before .before .loop .j in
+    JobChecked (start .args .layouts) (getD (start .args .tops .now) j 0) (getD (start .args .bottoms .now) j 0) (start .args .tree .now) (c .check-job .result)
+checked c = rw (c .before .before .top-of .ensures, c .before .bottom-of .ensures) at (c .check-job .ensures)
+
 loop-holds : tie.Need-loop-holds Inv-loop μ-loop
 loop-holds c = none-checked _ _ _ _
 
-mul-t7 : tie.Need-mul-t7 Inv-loop μ-loop
-mul-t7 c = search needs
+cast-t10 : tie.Need-cast-t10 Inv-loop μ-loop
+cast-t10 c = search needs
 
-shared-slice-read-t10 : tie.Need-shared-slice-read-t10 Inv-loop μ-loop
-shared-slice-read-t10 c = search needs
+top-of-requires : tie.Need-top-of-requires Inv-loop μ-loop
+top-of-requires c κs = search needs
 
-mul-t12 : tie.Need-mul-t12 Inv-loop μ-loop
-mul-t12 c = search needs
-
-shared-slice-read-t14 : tie.Need-shared-slice-read-t14 Inv-loop μ-loop
-shared-slice-read-t14 c = search needs
+bottom-of-requires : tie.Need-bottom-of-requires Inv-loop μ-loop
+bottom-of-requires c κs = search needs
 
 check-job-requires : tie.Need-check-job-requires Inv-loop μ-loop
 check-job-requires c κs = omega arith
 
-cast-t16 : tie.Need-cast-t16 Inv-loop μ-loop
-cast-t16 c = search needs
-
 returns : tie.Need-returns Inv-loop μ-loop
-returns c = wrong-job _ _ _ _ _ (c .before .before .before .before .loop-test .taken) _ (c .before .check-job .ensures) (c .before .before .before .before .before .loop .inv) (c .if1 .taken) _ refl refl
+returns c = wrong-job _ _ _ _ _ (c .before .before .before .before .loop-test .taken) _ (checked (c .before)) (c .before .before .before .before .before .loop .inv) (c .if1 .taken) _ refl
 
 add-j : tie.Need-add-j Inv-loop μ-loop
 add-j c = search needs
@@ -45,7 +47,7 @@ loop-less : tie.Need-loop-less Inv-loop μ-loop
 loop-less c = omega arith
 
 loop-again : tie.Need-loop-again Inv-loop μ-loop
-loop-again c = one-more _ _ _ _ _ (c .before .before .before .before .loop-test .taken) _ (c .before .check-job .ensures) (c .before .before .before .before .before .loop .inv) (c .if1 .left)
+loop-again c = one-more _ _ _ _ _ (c .before .before .before .before .loop-test .taken) _ (checked (c .before)) (c .before .before .before .before .before .loop .inv) (c .if1 .left)
 
 returns-2 : tie.Need-returns-2 Inv-loop μ-loop
 returns-2 c = all-checked _ _ _ _ _ (c .loop-test .left) (c .before .loop .inv)
@@ -57,12 +59,10 @@ check-jobs-spec =
     Inv-loop
     μ-loop
     loop-holds
-    mul-t7
-    shared-slice-read-t10
-    mul-t12
-    shared-slice-read-t14
+    cast-t10
+    top-of-requires
+    bottom-of-requires
     check-job-requires
-    cast-t16
     returns
     add-j
     loop-less

@@ -41,10 +41,13 @@ plan-accepted-requires c κs =
     let is = c .before .before .before .enum-told .given .1 in
     (right _ _ _ _ _ (s .args .partners .now) (s .args .printed .now) (s .args .work .now) (s .pre .0) (s .pre .1 .0) (s .pre .1 .1) _ e is, (s .pre .1 .1, room _ _ _ _ _ (s .args .partners .now) (s .args .printed .now) (s .args .work .now) (s .pre .0) (s .pre .1 .0) (s .pre .1 .1) _ e is))
 
+refuse-requires : tie.Need-refuse-requires
+refuse-requires c κs = search needs
+
 returns : tie.Need-returns
 returns c =
-    let s = c .before .before .before .before .before .before .before .before .before .before .before in
-    refused-job _ _ _ _ _ _ (c .before .before .before .check-jobs .ensures .verdict _ (s .args .marks .now) refl (λ h. s .pre .1 .1)) (c .before .check .given .1)
+    let s = c .before .before .before .before .before .before .before .before .before .before .before .before in
+    refused-job _ _ _ _ _ _ _ (c .before .before .before .before .check-jobs .ensures .verdict _ (s .args .marks .now) refl (λ h. s .pre .1 .1)) (c .before .before .check .given .1) _ (c .refuse .ensures)
 
 same-length : tie.Need-same-length
 same-length c = search needs
@@ -66,6 +69,7 @@ plan-settled-spec =
     (tie.spec
     check-jobs-requires
     enum-known-check
+    refuse-requires
     enum-told
     slice-relend-prefix-plan-accepted
     slice-aggregate-plan-accepted

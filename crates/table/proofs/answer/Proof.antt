@@ -8,17 +8,17 @@ use Rattle.table.proofs.answer.Tie as tie
 enum-known-check : tie.Need-enum-known-check
 enum-known-check c = search needs
 
-cast-t7 : tie.Need-cast-t7
-cast-t7 c = search needs
-
-add-t8 : tie.Need-add-t8
-add-t8 c = let known = rw (c .before .before .before .check .given .1) at (c .before .before .before .before .before .pre) in omega arith
+cast-t8 : tie.Need-cast-t8
+cast-t8 c = search needs
 
 add-t9 : tie.Need-add-t9
 add-t9 c = let known = rw (c .before .before .before .check .given .1) at (c .before .before .before .before .before .pre) in omega arith
 
-cast-t10 : tie.Need-cast-t10
-cast-t10 c = let known = rw (c .before .before .before .check .given .1) at (c .before .before .before .before .before .pre) in omega arith
+add-t10 : tie.Need-add-t10
+add-t10 c = let known = rw (c .before .before .before .check .given .1) at (c .before .before .before .before .before .pre) in omega arith
+
+cast-t11 : tie.Need-cast-t11
+cast-t11 c = let known = rw (c .before .before .before .check .given .1) at (c .before .before .before .before .before .pre) in omega arith
 
 enum-told : tie.Need-enum-told
 enum-told c = search needs
@@ -29,11 +29,11 @@ enum-known-stop c = search needs
 enum-told-2 : tie.Need-enum-told-2
 enum-told-2 c = search needs
 
-cast-t13 : tie.Need-cast-t13
-cast-t13 c = let known = rw (c .before .before .before .enum-told .given .1) at (c .before .before .before .before .before .pre) in omega arith
-
 cast-t14 : tie.Need-cast-t14
-cast-t14 c = let known = rw (c .before .before .before .before .enum-told .given .1) at (c .before .before .before .before .before .before .pre) in omega arith
+cast-t14 c = let known = rw (c .before .before .before .enum-told .given .1) at (c .before .before .before .before .before .pre) in omega arith
+
+cast-t15 : tie.Need-cast-t15
+cast-t15 c = let known = rw (c .before .before .before .before .enum-told .given .1) at (c .before .before .before .before .before .before .pre) in omega arith
 
 returns : tie.Need-returns
 returns c = rw (c .before .before .before .check .given .1) refl
@@ -49,15 +49,15 @@ answer-spec =
     tie.close
     (tie.spec
     enum-known-check
-    cast-t7
-    add-t8
+    cast-t8
     add-t9
-    cast-t10
+    add-t10
+    cast-t11
     enum-told
     enum-known-stop
     enum-told-2
-    cast-t13
     cast-t14
+    cast-t15
     returns
     returns-2
     returns-3)
