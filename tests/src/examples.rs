@@ -1,15 +1,22 @@
-//! Document 01's own tables, with what it says of each ("Tables to try" and the bakehouse table of
-//! "The plan").
+//! Document 01's own tables ("Tables to try" and the bakehouse table of "The plan"), with what it says
+//! of each as changed by 2026-01, and the tables on which wrong planners fail. Pairs and visits are
+//! worked out by hand from the definitions.
 
 use crate::reference::{Refusal, Table, ABSENT};
 
-/// What document 01 says of a table.
+/// What is said of a table.
 pub enum Said {
-    /// Its pairs, as earlier job, later job and layout; every other job is single.
-    Pairs(&'static [(u16, u16, u16)]),
+    Planned(Passes),
     /// A refusal by number: of *Plan* at the place given first, of the reader at the line given
     /// second.
     Refused(u16, u16, u16),
+}
+
+/// The pairs, as earlier job, later job and layout, every other job being single; and the cell
+/// count.
+pub struct Passes {
+    pub pairs: &'static [(u16, u16, u16)],
+    pub visits: u32,
 }
 
 pub struct Example {
@@ -20,67 +27,76 @@ pub struct Example {
 
 const F: u16 = ABSENT;
 
-fn example(
-    name: &'static str,
-    parents: &[u16],
-    jobs: &[(u16, u16)],
-    solo: &[(u16, u16)],
-    said: Said,
-) -> Example {
+/// A job by top and bottom.
+enum Job {
+    Plain(u16, u16),
+    Solo(u16, u16),
+}
+
+use Job::{Plain, Solo};
+
+fn example(name: &'static str, parents: &[u16], jobs: &[Job], said: Said) -> Example {
     let mut table = Table {
         parents: parents.to_vec(),
         ..Table::default()
     };
-    for &(top, bottom) in jobs {
-        table.add_job(top, bottom, 0);
-    }
-    for &(top, bottom) in solo {
-        table.add_job(top, bottom, 1);
+    for job in jobs {
+        match *job {
+            Plain(top, bottom) => table.add_job(top, bottom, 0),
+            Solo(top, bottom) => table.add_job(top, bottom, 1),
+        }
     }
     Example { name, table, said }
+}
+
+fn planned(pairs: &'static [(u16, u16, u16)], visits: u32) -> Said {
+    Said::Planned(Passes { pairs, visits })
 }
 
 /// The ten marked tables.
 pub fn marked() -> Vec<Example> {
     vec![
-        example("no jobs", &[F], &[], &[], Said::Pairs(&[])),
-        example("one job", &[F], &[(0, 0)], &[], Said::Pairs(&[])),
+        example("no jobs", &[F], &[], planned(&[], 0)),
+        example("one job", &[F], &[Plain(0, 0)], planned(&[], 0)),
         example(
             "two jobs",
             &[F],
-            &[(0, 0), (0, 0)],
-            &[],
-            Said::Pairs(&[(0, 1, 0)]),
+            &[Plain(0, 0), Plain(0, 0)],
+            planned(&[], 0),
         ),
-        example("a solo job", &[F], &[(0, 0)], &[(0, 0)], Said::Pairs(&[])),
+        example(
+            "a solo job",
+            &[F],
+            &[Plain(0, 0), Solo(0, 0)],
+            planned(&[], 0),
+        ),
+        // Job 1 asks for both slots.
         example(
             "no shared layout",
             &[F, 0],
-            &[(0, 0), (1, 1)],
-            &[],
-            Said::Pairs(&[]),
+            &[Plain(0, 0), Plain(1, 1)],
+            planned(&[], 1),
         ),
+        // Order 0, 1, 2, 3; jobs by slot 0, 2, 1, 3. Jobs 0 and 1 ask for half of the slots each.
         example(
             "two leaves",
             &[F, 0, 0],
-            &[(0, 1), (0, 2), (1, 1), (2, 2)],
-            &[],
-            Said::Pairs(&[(2, 0, 1), (3, 1, 2)]),
+            &[Plain(0, 1), Plain(0, 2), Plain(1, 1), Plain(2, 2)],
+            planned(&[(0, 2, 1), (1, 3, 2)], 6),
         ),
+        // Jobs 0 and 2 ask for all slots.
         example(
             "a chain of two",
             &[F, 0],
-            &[(1, 1), (1, 1), (0, 1), (0, 0)],
-            &[],
-            Said::Pairs(&[(0, 1, 1), (2, 3, 0)]),
+            &[Plain(1, 1), Plain(1, 1), Plain(0, 1), Plain(0, 0)],
+            planned(&[(0, 1, 1)], 2),
         ),
         bakehouse(),
-        example("a wrong parent", &[F, 1], &[], &[], Said::Refused(4, 1, 2)),
+        example("a wrong parent", &[F, 1], &[], Said::Refused(4, 1, 2)),
         example(
             "a bottom above its top",
             &[F, 0],
-            &[(1, 0)],
-            &[],
+            &[Plain(1, 0)],
             Said::Refused(6, 0, 3),
         ),
     ]
@@ -90,10 +106,108 @@ pub fn bakehouse() -> Example {
     example(
         "the bakehouse table",
         &[F, 0, 0, 1],
-        &[(0, 3), (1, 3), (2, 2), (0, 2), (3, 3)],
-        &[],
-        Said::Pairs(&[(4, 1, 3), (2, 3, 2)]),
+        &[
+            Plain(0, 3),
+            Plain(1, 3),
+            Plain(2, 2),
+            Plain(0, 2),
+            Plain(3, 3),
+        ],
+        planned(&[(4, 0, 3), (2, 3, 2)], 25),
     )
+}
+
+/// The tables on which wrong planners fail where the marked ones do not show it.
+pub fn telling() -> Vec<Example> {
+    vec![
+        // Order 2, 3, 0, 1; jobs by slot 2, 0, 3, 1. Jobs 2 and 3 ask for half of the slots each. In
+        // the order 0, 1, 2, 3 jobs 0 and 1 take each other on layout 1.
+        example(
+            "two branches",
+            &[F, 0, 1, 1],
+            &[Plain(0, 2), Plain(0, 3), Plain(2, 2), Plain(3, 3)],
+            planned(&[(2, 0, 2), (3, 1, 3)], 6),
+        ),
+        // Order 2, 3, 0, 1, one leaf. Where job 2 takes job 1, jobs 3 and 0 do not share.
+        example(
+            "the first partner",
+            &[F, 0, 1],
+            &[Plain(0, 1), Plain(0, 2), Plain(2, 2), Plain(2, 2)],
+            planned(&[(2, 3, 2), (0, 1, 1)], 2),
+        ),
+        // Job 1 goes first and asks for both slots; the bottom of job 0 has the leaf, but not the
+        // depth.
+        example(
+            "a job 0-0 in the span",
+            &[F, 0],
+            &[Plain(0, 0), Plain(0, 1)],
+            planned(&[], 1),
+        ),
+        // Job 1 goes first and asks for both slots; the bottom of job 0 has the leaf, but not the
+        // depth.
+        example(
+            "above the highest layout",
+            &[F, 0, 1],
+            &[Plain(0, 1), Plain(2, 2)],
+            planned(&[], 2),
+        ),
+        example(
+            "two jobs on layout 1",
+            &[F, 0],
+            &[Plain(0, 1), Plain(0, 1)],
+            planned(&[(0, 1, 1)], 1),
+        ),
+        // Job 0 asks for both slots.
+        example(
+            "a solo job that could share",
+            &[F, 0],
+            &[Plain(1, 1), Solo(1, 1)],
+            planned(&[], 1),
+        ),
+        // Layouts 1 and 2 are shared.
+        example(
+            "two shared layouts",
+            &[F, 0, 1],
+            &[Plain(0, 2), Plain(0, 2)],
+            planned(&[(0, 1, 2)], 1),
+        ),
+        // Each job asks for one slot of two.
+        example(
+            "layout 0 alone in common",
+            &[F, 0, 0],
+            &[Plain(0, 1), Plain(0, 2)],
+            planned(&[], 6),
+        ),
+        // All three have highest layout 1, so the order is 0, 1, 2. Jobs 0 and 2 ask for three slots
+        // of four.
+        example(
+            "a top 0 beside tops 1",
+            &[F, 0],
+            &[Plain(0, 1), Plain(1, 1), Plain(1, 1)],
+            planned(&[(0, 1, 1)], 10),
+        ),
+        // Job 0 asks for three slots of four, and jobs 1 and 2 ask for none.
+        example(
+            "jobs 0-0 with slots",
+            &[F, 0],
+            &[Plain(1, 1), Plain(0, 0), Plain(0, 0)],
+            planned(&[], 5),
+        ),
+        // Order 0, 1, 2, 3; jobs by slot 0, 2, 3, 1. Jobs 0 and 1 ask for slots 0 to 2 and slot 3.
+        example(
+            "the bare sheet",
+            &[F, 0, 0],
+            &[Plain(0, 1), Plain(0, 2), Plain(1, 1), Plain(0, 0)],
+            planned(&[(0, 2, 1)], 10),
+        ),
+    ]
+}
+
+/// A marked or telling table by its name.
+pub fn named(name: &str) -> Result<Example, String> {
+    let mut examples = marked().into_iter().chain(telling());
+    let found = examples.find(|example| example.name == name);
+    found.ok_or_else(|| format!("no table is named {name:?}"))
 }
 
 /// The bakehouse table as document 01 prints it.
@@ -110,15 +224,16 @@ pub const BAKEHOUSE_BYTES: &[u8] = b"01FFFF
 ";
 
 /// All that the program prints of it.
-pub const BAKEHOUSE_PLAN: &[u8] = b"11000400010003
+pub const BAKEHOUSE_PLAN: &[u8] = b"11000400000003
+120001
 11000200030002
-120000
 1F0002000100000019
 ";
 
-/// The running order of the bakehouse table, and the visits of its three lookups.
-pub const BAKEHOUSE_ORDER: [usize; 5] = [4, 1, 2, 0, 3];
-pub const BAKEHOUSE_VISITS: [u32; 3] = [7, 11, 7];
+/// The running order of the bakehouse table, and its lookups: the job of each, and the cells that it
+/// visits.
+pub const BAKEHOUSE_ORDER: [usize; 5] = [4, 0, 1, 2, 3];
+pub const BAKEHOUSE_LOOKUPS: [(usize, u32); 3] = [(4, 7), (1, 7), (2, 11)];
 
 /// A table's bytes with what *Read a table* must answer: document 01's words, and the readings of
 /// them, one by one.

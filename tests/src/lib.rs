@@ -2,6 +2,7 @@
 //! document 01's own tables, buffers with guard cells, the proved operations through their static
 //! library, a whole run by hand to measure theirs against, and pictures and pages of tables.
 
+pub mod bare_sheet;
 pub mod browser;
 pub mod by_hand;
 pub mod examples;

@@ -1,11 +1,11 @@
 //! What a picture must hold, counted in the picture itself against the second implementation: each
 //! layout, job, place and pass once, each bar over the boxes of its path and no other, the pairs in
-//! front of the cut, or the line that a refusal names.
+//! front of the cut, no pair on layout 0, or the line that a refusal names.
 
 use crate::made::tables::Size;
 use crate::made::Generator;
 use crate::picture::{JOBS_DRAWN, LAYOUTS_DRAWN};
-use crate::reference::paths::paths;
+use crate::reference::paths::{highest, whole_paths};
 use crate::reference::plan::{plan_of, running_order};
 use crate::reference::rivals::{pairs_before_cuts, pairs_of};
 use crate::reference::run::run;
@@ -210,6 +210,7 @@ impl Drawing {
                 .ok_or(format!("no pass {number}"))?;
             same("jobs of a pass", &self.jobs_in(at), jobs)?;
             same("layout of a pass", self.number(at, "data-layout"), layout)?;
+            same("a pass on layout 0", layout == Some(0), false)?;
             self.tells_lanes(table, at, jobs.len())?;
         }
         Ok(())
@@ -249,8 +250,23 @@ impl Drawing {
         same("places", places, (0..order.len()).map(Some).collect())?;
         for (at, &job) in self.of_class("place").zip(order) {
             same("job of a place", self.jobs_in(at), vec![job])?;
+            let expected = highest(table, job).map(usize::from);
+            same("highest layout", self.number(at, "data-highest"), expected)?;
         }
+        self.sets_layout_0_apart()?;
         self.holds_paths(expected)
+    }
+
+    /// The box of layout 0 is drawn as one that no pair prints on, and no other box is.
+    fn sets_layout_0_apart(&self) -> Outcome {
+        for at in self.of_class("layout") {
+            let apart = self
+                .held_by(at)
+                .filter(|&held| self.elements[held].has_class("bare-sheet"));
+            let expected = usize::from(self.number(at, "data-layout") == Some(0));
+            same("boxes set apart", apart.count(), expected)?;
+        }
+        Ok(())
     }
 
     /// A bar meets the boxes of its path and no other, and no other bar; a pair is tied in the box
@@ -259,7 +275,7 @@ impl Drawing {
         let table = &expected.table;
         let boxes = self.extents("layout", "box")?;
         let bars = self.extents("job", "body")?;
-        for (job, path) in paths(table).iter().enumerate() {
+        for (job, path) in whole_paths(table).iter().enumerate() {
             for (layout, &area) in boxes.iter().enumerate() {
                 let met = format!("bar {job} over layout {layout}");
                 same(&met, bars[job].meets(area), path.contains(layout as u16))?;

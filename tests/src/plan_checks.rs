@@ -2,7 +2,8 @@
 //! (document 01, "What each operation turns away" and "Rival plans and the cut"). The planner is a
 //! parameter, so that the checks can be tried on wrong ones.
 
-use crate::examples::{marked, Example, Said};
+use crate::bare_sheet::Search;
+use crate::examples::{marked, telling, Example, Passes, Said};
 use crate::lent::Lent;
 use crate::made::tables::{any_parents, path, table, table_of_size, Reach, Size};
 use crate::made::Generator;
@@ -18,8 +19,17 @@ pub type Planner<'a> =
 
 /// Every group of checks.
 pub fn run(report: &mut Report, planner: Planner) {
+    let search = Search::default();
+    let planner: Planner = &|table, partners, layouts, work| {
+        let answer = planner(table, partners, layouts, work);
+        if answer.is_ok() {
+            search.plan(table, used(partners, table), used(layouts, table));
+        }
+        answer
+    };
     let mut answers = AnswerCounts::default();
-    report.listed("document 01's tables", marked(), |example| {
+    let examples = marked().into_iter().chain(telling());
+    report.listed("tables worked by hand", examples, |example| {
         check_example(planner, &example)
     });
     report.listed("every small table", small_tables(), |table| {
@@ -50,6 +60,12 @@ pub fn run(report: &mut Report, planner: Planner) {
         counted(&table, room(&table, generator), generator)
     });
     report.answer_counts(&answers, &[0, 3, 4, 5, 6, 8], 50);
+    report.none_on_layout_0(&search);
+}
+
+/// The result cells that belong to jobs.
+fn used<'a>(cells: &'a [u16], table: &Table) -> &'a [u16] {
+    cells.get(..table.jobs()).unwrap_or_default()
 }
 
 /// One call, with everything lent, beside the reference: the partner cells or the refusal, or what
@@ -108,17 +124,16 @@ fn check_at_every_cut(planner: Planner, table: &Table, generator: &mut Generator
     Ok(())
 }
 
-/// A table of document 01, against its words and against the reference.
+/// A table worked by hand, against what is said of it and against the reference.
 pub fn check_example(planner: Planner, example: &Example) -> Outcome {
     let table = &example.table;
     let room = exact_room(table);
     let (mut partners, mut layouts) = (vec![1; room.partners], vec![1; room.layouts]);
     let answer = planner(table, &mut partners, &mut layouts, &mut [1; WORK_CELLS]);
     let said = match (&example.said, answer) {
-        (Said::Pairs(pairs), Ok(totals)) => {
-            let singles = table.jobs() - 2 * pairs.len();
-            let passes = (usize::from(totals.pairs), usize::from(totals.singles));
-            passes == (pairs.len(), singles) && (partners, layouts) == cells_of(table, pairs)
+        (Said::Planned(passes), Ok(totals)) => {
+            totals == totals_of(table, passes)
+                && (partners, layouts) == cells_of(table, passes.pairs)
         }
         (Said::Refused(number, place, _), Err(refusal)) => {
             (refusal.number, refusal.place) == (*number, *place)
@@ -127,11 +142,20 @@ pub fn check_example(planner: Planner, example: &Example) -> Outcome {
     };
     if !said {
         return Err(format!(
-            "{}: {answer:?} is not what document 01 says",
+            "{}: {answer:?} is not what is said of it",
             example.name
         ));
     }
     call(planner, table, room, &mut Generator::new(0)).map(|_| ())
+}
+
+fn totals_of(table: &Table, passes: &Passes) -> Totals {
+    let pairs = passes.pairs.len();
+    Totals {
+        pairs: pairs as u16,
+        singles: (table.jobs() - 2 * pairs) as u16,
+        visits: passes.visits,
+    }
 }
 
 /// Partner and layout cells of some pairs.

@@ -5,6 +5,7 @@
 //! With a group and a seed as arguments a program runs that one case again. FIRST_SEED in the
 //! environment moves the seeds of all groups.
 
+use crate::bare_sheet::Search;
 use crate::made::Generator;
 use crate::reference::Refusal;
 use std::env;
@@ -123,6 +124,23 @@ impl Report {
                 "every answer",
                 &format!("one came fewer than {least} times"),
             );
+        }
+    }
+
+    /// That no plan searched prints on layout 0, and that there were jobs to be wrongly paired on it.
+    pub fn none_on_layout_0(&mut self, search: &Search) {
+        if self.only.is_some() {
+            return;
+        }
+        let seen = search.seen();
+        println!(
+            "{}: a plan that prints on layout 0: searched {} plans with {} pairs; {} jobs have top 0, {} are 0-0, {} solo",
+            self.program, seen.plans, seen.pairs, seen.tops_0, seen.bare_jobs, seen.solo_jobs
+        );
+        if let Some(found) = seen.found {
+            self.fail("a plan that prints on layout 0", &found);
+        } else if [seen.pairs, seen.tops_0, seen.bare_jobs, seen.solo_jobs].contains(&0) {
+            self.fail("a plan that prints on layout 0", "nothing to be found");
         }
     }
 

@@ -2,7 +2,8 @@
 //! away"): the length, every byte of the output, and the bytes beyond it. The run is a parameter,
 //! so that the checks can be tried by themselves.
 
-use crate::examples::{marked, BAKEHOUSE_BYTES, BAKEHOUSE_PLAN, READINGS};
+use crate::bare_sheet::Search;
+use crate::examples::{marked, telling, BAKEHOUSE_BYTES, BAKEHOUSE_PLAN, READINGS};
 use crate::lent::Lent;
 use crate::made::damage::{damaged, damaged_often, nearly_right_lines, DAMAGES};
 use crate::made::tables::{table, table_of_size, Size};
@@ -17,16 +18,23 @@ pub type Runner<'a> = &'a dyn Fn(&[u8], &mut [u8]) -> usize;
 
 /// Every group of checks.
 pub fn run(report: &mut Report, runner: Runner) {
+    let search = Search::default();
+    let runner: Runner = &|input, output| {
+        let length = runner(input, output);
+        search.lines(input, output.get(..length).unwrap_or_default());
+        length
+    };
     report.listed("the bakehouse table", [BAKEHOUSE_BYTES], |bytes| {
         let mut output = vec![1; OUTPUT_BYTES];
         let length = runner(bytes, &mut output);
         let zeros = vec![0; OUTPUT_BYTES - BAKEHOUSE_PLAN.len()];
         match output == [BAKEHOUSE_PLAN, &zeros].concat() && length == BAKEHOUSE_PLAN.len() {
             true => Ok(()),
-            false => Err("the plan is not the one that document 01 prints".to_string()),
+            false => Err("the plan is not the one that 2026-01 asks for".to_string()),
         }
     });
-    report.listed("document 01's tables", marked(), |example| {
+    let examples = marked().into_iter().chain(telling());
+    report.listed("tables worked by hand", examples, |example| {
         let bytes = table_lines(&example.table).concat();
         check(runner, &bytes, OUTPUT_BYTES, &mut Generator::new(0))
     });
@@ -55,6 +63,7 @@ pub fn run(report: &mut Report, runner: Runner) {
         let length = generator.choice(&[length, 0, 1, OUTPUT_BYTES - 1]);
         check(runner, &bytes, length, generator)
     });
+    report.none_on_layout_0(&search);
 }
 
 /// One call beside the reference.

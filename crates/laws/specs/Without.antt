@@ -9,8 +9,7 @@ use native.Mathlib.Decide.{ℕ-discrete}
 use lib.ListN.{length}
 use lib.Dec.{eqb}
 use borrow.Author.Tests.{eqb-false, eq-eqb, ne-eqb, not-true}
-use Rattle.model.specs.Lists.{select, AllPairs, All}
-use Rattle.model.specs.Greedy.{without}
+use Rattle.model.specs.Lists.{select, AllPairs, All, without}
 use Rattle.laws.specs.Lists.{Distinct, all-mem, mem-all, select-all, select-mem, mem-select, select-pairwise}
 use Rattle.laws.specs.Booleans.{answers}
 

@@ -1,11 +1,12 @@
 -- Compatible jobs, those that may print in one pass: neither is solo, and they share (document 01, "Rival plans and the cut").
 use Prim.Native.Nat.{ℕ, _≤_, _<_}
-use mathlib.Core.Path.{_≡_, refl, _∙_}
-use mathlib.Core.Bool.{true, not, _&&_, and-comm, and-eq-true-iff}
-use Rattle.model.specs.Jobs.{Table, jobs, solo, shares, topDepth}
+use mathlib.Core.Path.{_≡_, refl, sym, _∙_}
+use mathlib.Core.Bool.{Bool, true, false, not, _&&_, and-false, and-comm, and-eq-true-iff}
+use borrow.Author.Tests.{eqb-true}
+use Rattle.model.specs.Jobs.{Table, jobs, bottom, solo, bare, asks, shares, highestDepth}
 use Rattle.model.specs.Greedy.{compatible}
 use Rattle.tree_laws.specs.WellFormed.{Tree}
-use Rattle.tree_laws.specs.Sharing.{Downward, shares-symmetric, strong-elimination}
+use Rattle.tree_laws.specs.Sharing.{Downward, bare-is, bare-alone, shares-symmetric, strong-elimination}
 use Rattle.matching.specs.Maximum.{StrongElimination}
 
 module _ (tb : Table) where
@@ -22,13 +23,28 @@ module _ (tb : Table) where
   unfolding compatible
   true-compatible i j a b c = rw (a, b, c) refl
 
+  -- they are compatible if both ask and they share: a job 0-0 shares with none
+  pub compatible-asks : Tree (tb .parents) → (i j : ℕ) → Downward tb i → Downward tb j → compatible tb i j ≡ (asks tb i && asks tb j && shares tb i j)
+  unfolding compatible asks
+  compatible-asks t i j a b = either (solo tb i) (solo tb j) (bare tb i) (bare tb j) (shares tb i j) (alone i j a) (λ e. shares-symmetric tb i j ∙ alone j i b e)
+    where
+      alone : (i j : ℕ) → Downward tb i → bare tb i ≡ true → shares tb i j ≡ false
+      alone i j a e = bare-alone tb t i j a (eqb-true (bottom tb i) 0 (sym (bare-is tb t i a) ∙ e))
+
+      either : (s s′ b b′ share : Bool) → (b ≡ true → share ≡ false) → (b′ ≡ true → share ≡ false) → (not s && not s′ && share) ≡ ((not s && not b) && (not s′ && not b′) && share)
+      either s s′ true b′ share h k = rw (h refl, and-false (not s && not s′), and-false ((not s && not true) && (not s′ && not b′))) refl
+      either s s′ false true share h k = rw (k refl, and-false (not s && not s′), and-false ((not s && not false) && (not s′ && not true))) refl
+      either true s′ false false share h k = refl
+      either false true false false share h k = refl
+      either false false false false share h k = refl
+
   -- two jobs are compatible one way round as they are the other
   pub compatible-symmetric : (i j : ℕ) → compatible tb i j ≡ compatible tb j i
   unfolding compatible
   compatible-symmetric i j = rw (shares-symmetric tb i j, and-comm (not (solo tb i)) (not (solo tb j))) refl
 
-  -- in the order of falling depth of top they eliminate strongly: none of them is solo, and sharing does
-  pub compatible-eliminates : Tree (tb .parents) → ((j : ℕ) → j < jobs tb → Downward tb j) → StrongElimination (λ (j : ℕ). j < jobs tb) (topDepth tb) (compatible tb)
+  -- in the order of falling depth of highest layout they eliminate strongly: none of them is solo, and sharing does
+  pub compatible-eliminates : Tree (tb .parents) → ((j : ℕ) → j < jobs tb → Downward tb j) → StrongElimination (λ (j : ℕ). j < jobs tb) (highestDepth tb) (compatible tb)
   compatible-eliminates t down = record { symmetric = λ i j h k e. compatible-symmetric j i ∙ e; eliminates = eliminates }
     where
       eliminates :
@@ -37,9 +53,9 @@ module _ (tb : Table) where
           → j < jobs tb
           → x < jobs tb
           → y < jobs tb
-          → topDepth tb j ≤ topDepth tb v
-          → topDepth tb y ≤ topDepth tb v
-          → topDepth tb x ≤ topDepth tb j
+          → highestDepth tb j ≤ highestDepth tb v
+          → highestDepth tb y ≤ highestDepth tb v
+          → highestDepth tb x ≤ highestDepth tb j
           → compatible tb v j ≡ true
           → compatible tb v x ≡ true
           → compatible tb j y ≡ true

@@ -8,7 +8,7 @@ use lib.ListN.{length, take, drop, take-append-drop}
 use lib.Dec.{ltb}
 use borrow.Author.Tests.{ltb-true, lt-ltb, le-ltb}
 use Rattle.model.specs.Lists.{countWhere, select, total}
-use Rattle.model.specs.Jobs.{Table, jobs, jobLimit, solo, shares, topDepth}
+use Rattle.model.specs.Jobs.{Table, jobs, jobLimit, solo, shares, highestDepth}
 use Rattle.model.specs.Order.{runningOrder, place}
 use Rattle.model.specs.Greedy.{greedy, compatible, passes}
 use Rattle.model.specs.Rival.{Pair, NoCommonJob, Rules, Rival, inFront, pairsInFront, pairsOf}
@@ -77,9 +77,9 @@ maximum-at-every-cut tb t down small ps rival m = rw (our-pairs-in-front tb smal
     front = take m (runningOrder tb)
 
     most : length (select (inFront tb m) ps) ≤ total pairCount (greedy (compatible tb) front)
-    most = greedy-maximum (λ (j : ℕ). j < jobs tb) (topDepth tb) (compatible tb) (compatible-eliminates tb t down) front
+    most = greedy-maximum (λ (j : ℕ). j < jobs tb) (highestDepth tb) (compatible tb) (compatible-eliminates tb t down) front
         (mem-all (λ (j : ℕ). j < jobs tb) front (λ j n. running-mem tb (take-mem m (runningOrder tb) n)))
-        (take-pairwise (Falls (topDepth tb)) m (runningOrder tb) (running-falls tb))
+        (take-pairwise (Falls (highestDepth tb)) m (runningOrder tb) (running-falls tb))
         (select (inFront tb m) ps)
         (all-imply (λ (p : Pair). Rules tb p × (inFront tb m p ≡ true)) (Fits (compatible tb) (λ (z : ℕ). Mem z front)) (select (inFront tb m) ps) (λ p r. front-fits tb m p (r .0) (r .1)) (selected-all (inFront tb m) (Rules tb) ps (rival .keep)))
         (select-pairwise (inFront tb m) NoCommonJob ps (rival .once))

@@ -10,8 +10,8 @@ use mathlib.Core.List.{List, [], _∷_, List·Memᴰ as Mem, List·Memᴰ·tail 
 use native.Mathlib.Decide.{ℕ-discrete}
 use native.Mathlib.Omega.{arith}
 use lib.ListN.{length}
-use Rattle.model.specs.Lists.{find, total, All, AllPairs}
-use Rattle.model.specs.Greedy.{without, greedyStep, greedySteps, greedy}
+use Rattle.model.specs.Lists.{find, total, All, AllPairs, without}
+use Rattle.model.specs.Greedy.{greedyStep, greedySteps, greedy}
 use Rattle.model.specs.Rival.{Pair, NoCommonJob}
 use Rattle.model.specs.Planning.{pairCount}
 use Rattle.laws.specs.Lists.{all-mem, mem-all, mem-rest, found-or-none, find-some, find-none, find-first}

@@ -8,8 +8,8 @@ use mathlib.Core.List.{List, [], _∷_, List·Memᴰ as Mem, List·Memᴰ·head 
 use native.Mathlib.Decide.{ℕ-discrete}
 use native.Mathlib.Omega.{arith}
 use lib.ListN.{length}
-use Rattle.model.specs.Lists.{indexOf, find, total, All, AllPairs}
-use Rattle.model.specs.Greedy.{Pass, pair, single, without, greedyStep, greedySteps, greedy}
+use Rattle.model.specs.Lists.{indexOf, find, total, All, AllPairs, without}
+use Rattle.model.specs.Greedy.{Pass, pair, single, greedyStep, greedySteps, greedy}
 use Rattle.model.specs.Rival.{Pair}
 use Rattle.model.specs.Planning.{pairCount, singleCount}
 use Rattle.laws.specs.Lists.{Distinct, all-mem, mem-all, found-or-none, find-some}

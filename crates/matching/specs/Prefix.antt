@@ -8,8 +8,8 @@ use mathlib.Core.Option.{none, some}
 use mathlib.Core.List.{List, [], _∷_, _++_}
 use native.Mathlib.Omega.{arith}
 use lib.ListN.{length, length-append}
-use Rattle.model.specs.Lists.{find, select, All}
-use Rattle.model.specs.Greedy.{without, greedySteps, greedy}
+use Rattle.model.specs.Lists.{find, select, All, without}
+use Rattle.model.specs.Greedy.{greedySteps, greedy}
 use Rattle.model.specs.Rival.{Pair}
 use Rattle.laws.specs.Lists.{all-mem, mem-all, found-or-none, find-some, find-left, find-right}
 use Rattle.laws.specs.Without.{without-mem, without-none, without-append}

@@ -8,8 +8,8 @@ use mathlib.Core.Option.{Option, none, some}
 use mathlib.Core.List.{List, [], _∷_, map, List·Memᴰ as Mem, List·Memᴰ·head as here, List·Memᴰ·tail as there}
 use native.Mathlib.Decide.{ℕ-discrete}
 use native.Mathlib.Omega.{arith}
-use Rattle.model.specs.Lists.{find, select, total, All, AllPairs}
-use Rattle.model.specs.Greedy.{Pass, pair, single, without, greedy}
+use Rattle.model.specs.Lists.{find, select, total, All, AllPairs, without}
+use Rattle.model.specs.Greedy.{Pass, pair, single, greedy}
 use Rattle.model.specs.Planning.{pairCount}
 use Rattle.laws.specs.Booleans.{answers}
 use Rattle.laws.specs.Lists.{find-some}

@@ -1,14 +1,15 @@
--- The worked tables (docs/RULES.md, 15; document 01, "Tables to try", those marked ◆), and what is printed for some: a table of examples, one of printings, and one fact of both.
+-- The worked tables (docs/RULES.md, 15): document 01's "Tables to try" that are marked ◆, planned as 2026-01 asks, tables that tell wrong planners, and what is printed
+-- for some: a table of examples, one of printings, and one fact of both.
 use Prim.Native.Nat.{ℕ}
 use mathlib.Core.Path.{_≡_, refl}
 use mathlib.Core.List.{List, [], _∷_, _++_, map, flatMap, headD}
 use lib.ListN.{length, getD}
-use Rattle.model.specs.Lists.{numbersFrom, numbers, elem, indexOf, lastD, anyOf, allOf, select, countWhere, find, total, insertBy, sortBy}
+use Rattle.model.specs.Lists.{numbersFrom, numbers, elem, indexOf, lastD, anyOf, allOf, select, countWhere, find, total, insertBy, sortBy, without}
 use Rattle.model.specs.Verdict.{Verdict, accepted, refused}
 use Rattle.model.specs.Tree.{FFFF, rightParent, layoutsFrom, treeVerdict, ascend, ancestors, ancestorOrSelf, depth, children, orSelf, leavesWithin, leaves, firstLeaf, lastLeaf}
-use Rattle.model.specs.Jobs.{Table, solo, upTo, pathFrom, path, shares, deepestShared, topDepth, bottomLeaf, jobVerdict}
+use Rattle.model.specs.Jobs.{Table, solo, upTo, pathFrom, path, ownPath, bare, asks, highest, highestDepth, shares, deepestShared, bottomLeaf, jobVerdict}
 use Rattle.model.specs.Order.{earlier, runningOrder, place, leftward, slotOrder, slot}
-use Rattle.model.specs.Greedy.{Pass, pair, single, without, greedyStep, greedySteps, greedy, compatible, passes}
+use Rattle.model.specs.Greedy.{Pass, pair, single, greedyStep, greedySteps, greedy, compatible, passes}
 use Rattle.model.specs.Visits.{levelsFrom, levels, cellVisits, visits, asksFor, askedSlots, askedFrom, askedTo, lookupVisits, passVisits, cellCount}
 use Rattle.model.specs.Planning.{workCells, lentVerdict, jobsVerdict, planVerdict, partnerIn, pairCount, singleCount, partners, printed, printedLayouts, pairs, singles}
 use Rattle.model.specs.Table.{isDigit, digitValue, numberAfter, lead, lines, frameOfKind, frameOf, isEnd, outOfOrder, contentVerdict, frameVerdict, extended, unlessRefused, readFrame, readLines, readTable}
@@ -69,29 +70,49 @@ bakehouse =
     record {
       parents = F ∷ 0 ∷ 0 ∷ 1 ∷ [];
       jobs = 0 to 3 ∷ 1 to 3 ∷ 2 to 2 ∷ 0 to 2 ∷ 3 to 3 ∷ [];
-      expected = plans ((4 ∷ 1 ∷ 3 ∷ []) ∷ (2 ∷ 3 ∷ 2 ∷ []) ∷ (0 ∷ []) ∷ []) (F ∷ 4 ∷ 3 ∷ 2 ∷ 1 ∷ []) (F ∷ 3 ∷ 2 ∷ 2 ∷ 3 ∷ []) 2 1 0x19;
+      expected = plans ((4 ∷ 0 ∷ 3 ∷ []) ∷ (1 ∷ []) ∷ (2 ∷ 3 ∷ 2 ∷ []) ∷ []) (4 ∷ F ∷ 3 ∷ 2 ∷ 0 ∷ []) (3 ∷ F ∷ 2 ∷ 2 ∷ 3 ∷ []) 2 1 0x19;
     }
 
 examples : List Example
 examples =
+    -- those marked ◆
     record { parents = F ∷ []; jobs = []; expected = plans [] [] [] 0 0 0 }
-    ∷ record { parents = F ∷ []; jobs = 0 to 0 ∷ []; expected = plans ((0 ∷ []) ∷ []) (F ∷ []) (F ∷ []) 0 1 1 }
-    ∷ record { parents = F ∷ []; jobs = 0 to 0 ∷ 0 to 0 ∷ []; expected = plans ((0 ∷ 1 ∷ 0 ∷ []) ∷ []) (1 ∷ 0 ∷ []) (0 ∷ 0 ∷ []) 1 0 1 }
-    ∷ record { parents = F ∷ []; jobs = 0 to 0 ∷ 0 soloTo 0 ∷ []; expected = plans ((0 ∷ []) ∷ (1 ∷ []) ∷ []) (F ∷ F ∷ []) (F ∷ F ∷ []) 0 2 1 }
-    ∷ record { parents = F ∷ 0 ∷ []; jobs = 0 to 0 ∷ 1 to 1 ∷ []; expected = plans ((1 ∷ []) ∷ (0 ∷ []) ∷ []) (F ∷ F ∷ []) (F ∷ F ∷ []) 0 2 2 }
+    ∷ record { parents = F ∷ []; jobs = 0 to 0 ∷ []; expected = plans ((0 ∷ []) ∷ []) (F ∷ []) (F ∷ []) 0 1 0 }
+    ∷ record { parents = F ∷ []; jobs = 0 to 0 ∷ 0 to 0 ∷ []; expected = plans ((0 ∷ []) ∷ (1 ∷ []) ∷ []) (F ∷ F ∷ []) (F ∷ F ∷ []) 0 2 0 }
+    ∷ record { parents = F ∷ []; jobs = 0 to 0 ∷ 0 soloTo 0 ∷ []; expected = plans ((0 ∷ []) ∷ (1 ∷ []) ∷ []) (F ∷ F ∷ []) (F ∷ F ∷ []) 0 2 0 }
+    ∷ record { parents = F ∷ 0 ∷ []; jobs = 0 to 0 ∷ 1 to 1 ∷ []; expected = plans ((1 ∷ []) ∷ (0 ∷ []) ∷ []) (F ∷ F ∷ []) (F ∷ F ∷ []) 0 2 1 }
     ∷ record {
       parents = F ∷ 0 ∷ 0 ∷ [];
       jobs = 0 to 1 ∷ 0 to 2 ∷ 1 to 1 ∷ 2 to 2 ∷ [];
-      expected = plans ((2 ∷ 0 ∷ 1 ∷ []) ∷ (3 ∷ 1 ∷ 2 ∷ []) ∷ []) (2 ∷ 3 ∷ 0 ∷ 1 ∷ []) (1 ∷ 2 ∷ 1 ∷ 2 ∷ []) 2 0 6;
+      expected = plans ((0 ∷ 2 ∷ 1 ∷ []) ∷ (1 ∷ 3 ∷ 2 ∷ []) ∷ []) (2 ∷ 3 ∷ 0 ∷ 1 ∷ []) (1 ∷ 2 ∷ 1 ∷ 2 ∷ []) 2 0 6;
     }
     ∷ record {
       parents = F ∷ 0 ∷ [];
       jobs = 1 to 1 ∷ 1 to 1 ∷ 0 to 1 ∷ 0 to 0 ∷ [];
-      expected = plans ((0 ∷ 1 ∷ 1 ∷ []) ∷ (2 ∷ 3 ∷ 0 ∷ []) ∷ []) (1 ∷ 0 ∷ 3 ∷ 2 ∷ []) (1 ∷ 1 ∷ 0 ∷ 0 ∷ []) 2 0 2;
+      expected = plans ((0 ∷ 1 ∷ 1 ∷ []) ∷ (2 ∷ []) ∷ (3 ∷ []) ∷ []) (1 ∷ 0 ∷ F ∷ F ∷ []) (1 ∷ 1 ∷ F ∷ F ∷ []) 1 2 2;
     }
     ∷ bakehouse
     ∷ record { parents = F ∷ 1 ∷ []; jobs = []; expected = turnsAway 4 1 }
     ∷ record { parents = F ∷ 0 ∷ []; jobs = 1 to 0 ∷ []; expected = turnsAway 6 0 }
+    -- those that tell wrong planners: the shallowest first, a later partner, spans without depths, the last never offered, solo jobs paired, the highest shared layout
+    -- printed, jobs 0-0 that ask or have no slot, the order by depth of top
+    ∷ record {
+      parents = F ∷ 0 ∷ 1 ∷ 1 ∷ [];
+      jobs = 0 to 2 ∷ 0 to 3 ∷ 2 to 2 ∷ 3 to 3 ∷ [];
+      expected = plans ((2 ∷ 0 ∷ 2 ∷ []) ∷ (3 ∷ 1 ∷ 3 ∷ []) ∷ []) (2 ∷ 3 ∷ 0 ∷ 1 ∷ []) (2 ∷ 3 ∷ 2 ∷ 3 ∷ []) 2 0 6;
+    }
+    ∷ record {
+      parents = F ∷ 0 ∷ 1 ∷ [];
+      jobs = 0 to 1 ∷ 0 to 2 ∷ 2 to 2 ∷ 2 to 2 ∷ [];
+      expected = plans ((2 ∷ 3 ∷ 2 ∷ []) ∷ (0 ∷ 1 ∷ 1 ∷ []) ∷ []) (1 ∷ 0 ∷ 3 ∷ 2 ∷ []) (1 ∷ 1 ∷ 2 ∷ 2 ∷ []) 2 0 2;
+    }
+    ∷ record { parents = F ∷ 0 ∷ 1 ∷ []; jobs = 0 to 1 ∷ 2 to 2 ∷ []; expected = plans ((1 ∷ []) ∷ (0 ∷ []) ∷ []) (F ∷ F ∷ []) (F ∷ F ∷ []) 0 2 2 }
+    ∷ record { parents = F ∷ 0 ∷ []; jobs = 0 to 1 ∷ 0 to 1 ∷ []; expected = plans ((0 ∷ 1 ∷ 1 ∷ []) ∷ []) (1 ∷ 0 ∷ []) (1 ∷ 1 ∷ []) 1 0 1 }
+    ∷ record { parents = F ∷ 0 ∷ []; jobs = 1 to 1 ∷ 1 soloTo 1 ∷ []; expected = plans ((0 ∷ []) ∷ (1 ∷ []) ∷ []) (F ∷ F ∷ []) (F ∷ F ∷ []) 0 2 1 }
+    ∷ record { parents = F ∷ 0 ∷ 1 ∷ []; jobs = 0 to 2 ∷ 0 to 2 ∷ []; expected = plans ((0 ∷ 1 ∷ 2 ∷ []) ∷ []) (1 ∷ 0 ∷ []) (2 ∷ 2 ∷ []) 1 0 1 }
+    ∷ record { parents = F ∷ 0 ∷ []; jobs = 1 to 1 ∷ 0 to 0 ∷ 0 to 0 ∷ []; expected = plans ((0 ∷ []) ∷ (1 ∷ []) ∷ (2 ∷ []) ∷ []) (F ∷ F ∷ F ∷ []) (F ∷ F ∷ F ∷ []) 0 3 5 }
+    ∷ record { parents = F ∷ 0 ∷ 0 ∷ []; jobs = 0 to 0 ∷ 2 to 2 ∷ 2 to 2 ∷ []; expected = plans ((1 ∷ 2 ∷ 2 ∷ []) ∷ (0 ∷ []) ∷ []) (F ∷ 2 ∷ 1 ∷ []) (F ∷ 2 ∷ 2 ∷ []) 1 1 7 }
+    ∷ record { parents = F ∷ 0 ∷ []; jobs = 0 to 1 ∷ 1 to 1 ∷ []; expected = plans ((0 ∷ 1 ∷ 1 ∷ []) ∷ []) (1 ∷ 0 ∷ []) (1 ∷ 1 ∷ []) 1 0 1 }
     ∷ []
 
 -- ---- from bytes to bytes
@@ -123,9 +144,9 @@ printings =
           ∷ (0 ∷ 3 ∷ 0 ∷ 0 ∷ 0 ∷ 4 ∷ 0 ∷ 0 ∷ 0 ∷ 5 ∷ [])
           ∷ [];
       spells =
-          (1 ∷ 1 ∷ 0 ∷ 0 ∷ 0 ∷ 4 ∷ 0 ∷ 0 ∷ 0 ∷ 1 ∷ 0 ∷ 0 ∷ 0 ∷ 3 ∷ [])
+          (1 ∷ 1 ∷ 0 ∷ 0 ∷ 0 ∷ 4 ∷ 0 ∷ 0 ∷ 0 ∷ 0 ∷ 0 ∷ 0 ∷ 0 ∷ 3 ∷ [])
+          ∷ (1 ∷ 2 ∷ 0 ∷ 0 ∷ 0 ∷ 1 ∷ [])
           ∷ (1 ∷ 1 ∷ 0 ∷ 0 ∷ 0 ∷ 2 ∷ 0 ∷ 0 ∷ 0 ∷ 3 ∷ 0 ∷ 0 ∷ 0 ∷ 2 ∷ [])
-          ∷ (1 ∷ 2 ∷ 0 ∷ 0 ∷ 0 ∷ 0 ∷ [])
           ∷ (1 ∷ 15 ∷ 0 ∷ 0 ∷ 0 ∷ 2 ∷ 0 ∷ 0 ∷ 0 ∷ 1 ∷ 0 ∷ 0 ∷ 0 ∷ 0 ∷ 0 ∷ 0 ∷ 1 ∷ 9 ∷ [])
           ∷ [];
     }
@@ -157,12 +178,12 @@ printings =
 
 -- ---- the fact
 
--- each table is planned or refused as expected, each printing is as spelled, the bakehouse has its running order, and the lookups of jobs 4, 2 and 0 visit
--- 7, 11 and 7 cells
+-- each table is planned or refused as expected, each printing is as spelled, the bakehouse has its running order, and the lookups of jobs 4, 1 and 2 visit
+-- 7, 7 and 11 cells
 examples-hold :
     (map planned examples ≡ map (λ (e : Example). e .expected) examples)
     × (map (λ (e : Printing). runBytes (flatMap spelled (e .lines))) printings ≡ map (λ (e : Printing). flatMap spelled (e .spells)) printings)
-    × (runningOrder (tableIn bakehouse) ≡ 4 ∷ 1 ∷ 2 ∷ 0 ∷ 3 ∷ [])
-    × (map (lookupVisits (tableIn bakehouse)) (4 ∷ 2 ∷ 0 ∷ []) ≡ 7 ∷ 11 ∷ 7 ∷ [])
-unfolding numbersFrom numbers elem indexOf lastD anyOf allOf select countWhere find total insertBy sortBy rightParent layoutsFrom treeVerdict ascend ancestors ancestorOrSelf depth children orSelf leavesWithin leaves firstLeaf lastLeaf solo upTo pathFrom path shares deepestShared topDepth bottomLeaf jobVerdict earlier runningOrder place leftward slotOrder slot without greedyStep greedySteps greedy compatible passes levelsFrom levels cellVisits visits asksFor askedSlots askedFrom askedTo lookupVisits passVisits cellCount lentVerdict jobsVerdict planVerdict partnerIn pairCount singleCount partners printed printedLayouts pairs singles passNumbers outcome _to_ _soloTo_ tableIn planned F bakehouse examples flatMap headD isDigit digitValue numberAfter lead lines frameOfKind frameOf isEnd outOfOrder contentVerdict frameVerdict extended unlessRefused readFrame readLines readTable digit hex pairLine singleLine totalsLine passLine planBytes refusalBytes readingBytes runBytes spelled printings
+    × (runningOrder (tableIn bakehouse) ≡ 4 ∷ 0 ∷ 1 ∷ 2 ∷ 3 ∷ [])
+    × (map (lookupVisits (tableIn bakehouse)) (4 ∷ 1 ∷ 2 ∷ []) ≡ 7 ∷ 7 ∷ 11 ∷ [])
+unfolding numbersFrom numbers elem indexOf lastD anyOf allOf select countWhere find total insertBy sortBy rightParent layoutsFrom treeVerdict ascend ancestors ancestorOrSelf depth children orSelf leavesWithin leaves firstLeaf lastLeaf solo upTo pathFrom path ownPath bare asks highest highestDepth shares deepestShared bottomLeaf jobVerdict earlier runningOrder place leftward slotOrder slot without greedyStep greedySteps greedy compatible passes levelsFrom levels cellVisits visits asksFor askedSlots askedFrom askedTo lookupVisits passVisits cellCount lentVerdict jobsVerdict planVerdict partnerIn pairCount singleCount partners printed printedLayouts pairs singles passNumbers outcome _to_ _soloTo_ tableIn planned F bakehouse examples flatMap headD isDigit digitValue numberAfter lead lines frameOfKind frameOf isEnd outOfOrder contentVerdict frameVerdict extended unlessRefused readFrame readLines readTable digit hex pairLine singleLine totalsLine passLine planBytes refusalBytes readingBytes runBytes spelled printings
 examples-hold = (refl, refl, refl, refl)

@@ -4,8 +4,7 @@ use mathlib.Core.Bool.{Bool, not, _&&_}
 use mathlib.Core.Option.{Option, none, some}
 use mathlib.Core.List.{List, [], _∷_}
 use lib.ListN.{length}
-use lib.Dec.{eqb}
-use Rattle.model.specs.Lists.{find, select}
+use Rattle.model.specs.Lists.{find, without}
 use Rattle.model.specs.Jobs.{Table, solo, shares}
 use Rattle.model.specs.Order.{runningOrder}
 
@@ -13,10 +12,6 @@ use Rattle.model.specs.Order.{runningOrder}
 pub data Pass : Type 0 where
   pair : ℕ → ℕ → Pass
   single : ℕ → Pass
-
--- the list without j
-unfoldable pub without : ℕ → List ℕ → List ℕ
-without j vs = select (λ (v : ℕ). not (eqb v j)) vs
 
 -- one step of the greedy rule: v with j, where one was found among vs, else alone; and then what `rest` makes of the others
 unfoldable pub greedyStep : (List ℕ → List Pass) → ℕ → List ℕ → Option ℕ → List Pass
@@ -34,7 +29,7 @@ unfoldable pub greedy : (ℕ → ℕ → Bool) → List ℕ → List Pass
 greedy compatible vs = greedySteps (length vs) compatible vs
 
 module _ (tb : Table) where
-  -- neither is solo, and they share
+  -- neither is solo, and they share; a job 0-0 shares with none
   unfoldable pub compatible : ℕ → ℕ → Bool
   compatible i j = not (solo tb i) && not (solo tb j) && shares tb i j
 

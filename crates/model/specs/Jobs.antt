@@ -1,10 +1,10 @@
--- Jobs as downward paths, and sharing (docs/RULES.md, 4; document 01, "The tree and the running order"; 000, Definition 3).
+-- Jobs as downward paths, and sharing (docs/RULES.md, 4; document 01, "The tree and the running order", as 2026-01 changed it; 000, Definition 3).
 use Prim.Native.Nat.{ℕ}
-use mathlib.Core.Bool.{Bool, cond, not, _||_}
+use mathlib.Core.Bool.{Bool, cond, not, _&&_, _||_}
 use mathlib.Core.List.{List, [], _∷_, headD}
 use lib.ListN.{length, getD}
 use lib.Dec.{eqb, leb}
-use Rattle.model.specs.Lists.{elem, anyOf, select}
+use Rattle.model.specs.Lists.{elem, lastD, anyOf, select, without}
 use Rattle.model.specs.Verdict.{Verdict, refuseIf, _then_}
 use Rattle.model.specs.Tree.{FFFF, ancestors, ancestorOrSelf, depth, firstLeaf}
 
@@ -52,17 +52,33 @@ module _ (tb : Table) where
   unfoldable pub path : ℕ → List ℕ
   path j = pathFrom (tb .parents) (top tb j) (bottom tb j)
 
-  -- two jobs share if some layout is on both paths
+  -- the path without layout 0, on which no pair prints (000: P(v))
+  unfoldable pub ownPath : ℕ → List ℕ
+  ownPath j = without 0 (path j)
+
+  -- a job 0-0, which has no other layout on its path
+  unfoldable pub bare : ℕ → Bool
+  bare j = eqb (top tb j) 0 && eqb (bottom tb j) 0
+
+  -- a job makes a lookup at its turn, if it is free then, unless it is solo or a job 0-0
+  unfoldable pub asks : ℕ → Bool
+  asks j = not (solo tb j) && not (bare j)
+
+  -- the highest layout other than 0 on the path (000: t(v)); 0 for a job 0-0, which has none
+  unfoldable pub highest : ℕ → ℕ
+  highest j = lastD (ownPath j) 0
+
+  -- its depth; a job 0-0 has depth 0
+  unfoldable pub highestDepth : ℕ → ℕ
+  highestDepth j = depth (tb .parents) (highest j)
+
+  -- two jobs share if some layout other than 0 is on both paths
   unfoldable pub shares : ℕ → ℕ → Bool
-  shares i j = anyOf (λ (x : ℕ). elem x (path j)) (path i)
+  shares i j = anyOf (λ (x : ℕ). elem x (ownPath j)) (ownPath i)
 
-  -- the deepest layout on both paths, on which the pair prints
+  -- the deepest layout other than 0 on both paths, on which the pair prints
   unfoldable pub deepestShared : ℕ → ℕ → ℕ
-  deepestShared i j = headD (select (λ (x : ℕ). elem x (path j)) (path i)) FFFF
-
-  -- depth of a job's top
-  unfoldable pub topDepth : ℕ → ℕ
-  topDepth j = depth (tb .parents) (top tb j)
+  deepestShared i j = headD (select (λ (x : ℕ). elem x (ownPath j)) (ownPath i)) FFFF
 
   -- the first leaf of a job's bottom
   unfoldable pub bottomLeaf : ℕ → ℕ

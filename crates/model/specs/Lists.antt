@@ -1,6 +1,6 @@
 -- Plain functions on lists of numbers that the other definitions are written in (docs/RULES.md, 1). Nothing here is of document 01.
 use Prim.Native.Nat.{ℕ, zero, suc, _+_}
-use mathlib.Core.Bool.{Bool, true, false, cond, _&&_, _||_}
+use mathlib.Core.Bool.{Bool, true, false, cond, not, _&&_, _||_}
 use mathlib.Core.Option.{Option, none, some}
 use mathlib.Core.List.{List, [], _∷_}
 use lib.Dec.{eqb}
@@ -79,3 +79,7 @@ module _ {ℓ} {A : Type ℓ} where
   abbrev pub AllPairs : (A → A → Type 0) → List A → Type 0
   AllPairs R [] = Unit {0}
   AllPairs R (x ∷ xs) = All (R x) xs × AllPairs R xs
+
+-- the list without x
+unfoldable pub without : ℕ → List ℕ → List ℕ
+without x l = select (λ (y : ℕ). not (eqb y x)) l

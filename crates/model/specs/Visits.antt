@@ -7,7 +7,7 @@ use lib.ListN.{length, getD}
 use lib.Dec.{leb}
 use Rattle.model.specs.Lists.{numbers, select, total}
 use Rattle.model.specs.Tree.{firstLeaf, lastLeaf}
-use Rattle.model.specs.Jobs.{Table, jobs, top, solo, bottomLeaf}
+use Rattle.model.specs.Jobs.{Table, jobs, asks, highest, bottomLeaf}
 use Rattle.model.specs.Order.{slotOrder}
 use Rattle.model.specs.Greedy.{Pass, pair, single, passes}
 
@@ -35,11 +35,11 @@ unfoldable pub visits : ℕ → ℕ → ℕ → ℕ
 visits k from to = cond (leb to from) 1 (cellVisits k 0 from to)
 
 module _ (tb : Table) where
-  -- the lookup of job i asks for slot s: the bottom of the slot's job has its first leaf in the leaf span of the top of i
+  -- the lookup of job i asks for slot s: the bottom of the slot's job has its first leaf in the leaf span of the highest layout of i
   unfoldable pub asksFor : ℕ → ℕ → Bool
   asksFor i s =
-      leb (firstLeaf (tb .parents) (top tb i)) (bottomLeaf tb (getD (slotOrder tb) s 0))
-      && leb (bottomLeaf tb (getD (slotOrder tb) s 0)) (lastLeaf (tb .parents) (top tb i))
+      leb (firstLeaf (tb .parents) (highest tb i)) (bottomLeaf tb (getD (slotOrder tb) s 0))
+      && leb (bottomLeaf tb (getD (slotOrder tb) s 0)) (lastLeaf (tb .parents) (highest tb i))
 
   -- every slot that it asks for, in order
   unfoldable pub askedSlots : ℕ → List ℕ
@@ -52,15 +52,15 @@ module _ (tb : Table) where
   unfoldable pub askedTo : ℕ → ℕ
   askedTo i = askedFrom i + length (askedSlots i)
 
-  -- the visits of the job's lookup; a solo job has none
+  -- the visits of the job's lookup; a solo job and a job 0-0 make none
   unfoldable pub lookupVisits : ℕ → ℕ
-  lookupVisits i = cond (solo tb i) 0 (visits (levels (jobs tb)) (askedFrom i) (askedTo i))
+  lookupVisits i = cond (asks tb i) (visits (levels (jobs tb)) (askedFrom i) (askedTo i)) 0
 
   -- the job that is free at its turn in a pass
   unfoldable pub passVisits : Pass → ℕ
   passVisits (pair i j) = lookupVisits i
   passVisits (single i) = lookupVisits i
 
-  -- the cell count of the plan: one lookup for each non-solo job still free at its turn
+  -- the cell count of the plan: one lookup for each job still free at its turn that is neither solo nor a job 0-0
   unfoldable pub cellCount : ℕ
   cellCount = total passVisits (passes tb)

@@ -23,13 +23,13 @@ pub enum Pass {
     Single(JobNumber),
 }
 
-// Makes the passes of an accepted table in the work cells, and answers what they come to.
+// Makes the passes of an accepted table in the work cells, and answers what they come to. The tops and marks are used up.
 pub fn make_passes(
     parents: &[u16],
     tree: &[u16; TREE],
-    tops: &[u16],
+    tops: &mut [u16],
     bottoms: &[u16],
-    marks: &[u8],
+    marks: &mut [u8],
     work: &mut [u16],
 ) -> Totals
     requires { ⌜ Accepted (tableOf (now parents) (now tops) (now bottoms) (now marks)) ⌝ }

@@ -17,7 +17,44 @@ ghost use Rattle.model.specs.Planning.{jobsVerdict};
 ghost use Rattle.model.specs.Outcomes.{PlannedAs, PlanOutcome};
 ghost use Rattle.settle.specs.Spanned.{Spanned};
 ghost use Rattle.jobs.specs.Accepted.{Accepted, Lent};
+ghost use Rattle.passes.specs.Making.{Roomy, Made};
+ghost use Rattle.planner.specs.Copies.{Copyable};
 ghost use Rattle.planner.specs.Planned.{Room, Filled};
+
+// Copies tops and marks to cells that will hold the highest layouts, and marks at those who ask nobody.
+fn copy_columns(tops: &[u16], marks: &[u8], highests: &mut [u16], quiet: &mut [u8])
+    requires { ⌜ Copyable (now tops) (now marks) (now highests) (now quiet) ⌝ }
+    ensures { λ r. ⌜ now (highests .exit) ≡ now (tops .entry) ⌝ }
+    ensures { λ r. ⌜ now (quiet .exit) ≡ now (marks .entry) ⌝ }
+{
+    let mut j = 0;
+    while j < tops.len() {
+        highests[j] = tops[j];
+        quiet[j] = marks[j];
+        j += 1;
+    }
+}
+
+// Makes the passes of an accepted table from copies of its tops and marks, which are used up.
+fn make_from_copies(
+    parents: &[u16],
+    tree: &[u16; TREE],
+    tops: &[u16],
+    bottoms: &[u16],
+    marks: &[u8],
+    highests: &mut [u16],
+    quiet: &mut [u8],
+    work: &mut [u16],
+) -> Totals
+    requires { ⌜ Accepted (tableOf (now parents) (now tops) (now bottoms) (now marks)) ⌝ }
+    requires { ⌜ Spanned (now parents) (now tree) ⌝ }
+    requires { ⌜ Roomy (length (now tops)) (now work) ⌝ }
+    requires { ⌜ Copyable (now tops) (now marks) (now highests) (now quiet) ⌝ }
+    ensures { λ r. ⌜ Made (tableOf (now (parents .entry)) (now (tops .entry)) (now (bottoms .entry)) (now (marks .entry))) (now (parents .entry)) (now (tree .entry)) (now (bottoms .entry)) (now (work .entry)) r (now (work .exit)) ⌝ }
+{
+    copy_columns(tops, marks, highests, quiet);
+    passes::make_passes(parents, tree, highests, bottoms, quiet, work)
+}
 
 // Plans an accepted table into results of one cell for each job; the work cells end as 0.
 fn plan_accepted(
@@ -35,7 +72,19 @@ fn plan_accepted(
     requires { ⌜ Room (length (now tops)) (now partners) (now printed) (now work) ⌝ }
     ensures { λ r. ⌜ Filled (tableOf (now (parents .entry)) (now (tops .entry)) (now (bottoms .entry)) (now (marks .entry))) r (now (partners .exit)) (now (printed .exit)) (now (work .exit)) ⌝ }
 {
-    let totals = passes::make_passes(parents, tree, tops, bottoms, marks, work);
+    let jobs = tops.len();
+    let mut highests = [model::ABSENT; JobNumber::LIMIT];
+    let mut quiet = [0u8; JobNumber::LIMIT];
+    let totals = make_from_copies(
+        parents,
+        tree,
+        tops,
+        bottoms,
+        marks,
+        &mut highests[..jobs],
+        &mut quiet[..jobs],
+        work,
+    );
     let count = totals.pairs as usize + totals.singles as usize;
     hand_back::hand_back(parents, tree, bottoms, work, count, partners, printed);
     buffers::fill(work, 0);

@@ -9,12 +9,12 @@ use native.Mathlib.Omega.{arith}
 use lib.ListN.{length, getD, drop, length-map, List·getD-append}
 use lib.Dec.{eqb, ltb}
 use borrow.Author.Tests.{eqb-true, ne-eqb, lt-ltb, le-ltb}
-use Rattle.model.specs.Lists.{numbers, select, All}
+use Rattle.model.specs.Lists.{numbers, select, All, without}
 use Rattle.model.specs.Verdict.{Verdict, accepted, refused}
 use Rattle.model.specs.Tree.{FFFF}
 use Rattle.model.specs.Jobs.{Table, jobs}
 use Rattle.model.specs.Order.{runningOrder, place}
-use Rattle.model.specs.Greedy.{Pass, pair, single, without, greedy, compatible, passes}
+use Rattle.model.specs.Greedy.{Pass, pair, single, greedy, compatible, passes}
 use Rattle.model.specs.Planning as Planning
 use Rattle.model.specs.Planning.{partnerIn, printed}
 use Rattle.model.specs.Visits.{cellCount}

@@ -41,13 +41,13 @@ fn print_refusal(output: &mut [u8], refusal: Refusal) -> usize
     length
 }
 
-// Plans a table that was read and settled, and prints the plan.
+// Plans a table that was read and settled, and prints the plan. The tops and marks are used up.
 fn print_table(
     parents: &[u16],
     tree: &[u16; TREE],
-    tops: &[u16],
+    tops: &mut [u16],
     bottoms: &[u16],
-    marks: &[u8],
+    marks: &mut [u8],
     work: &mut [u16],
     output: &mut [u8],
 ) -> usize
@@ -85,9 +85,9 @@ fn run_in(
             print_table(
                 &parents[..layouts],
                 &tree,
-                &tops[..jobs],
+                &mut tops[..jobs],
                 &bottoms[..jobs],
-                &marks[..jobs],
+                &mut marks[..jobs],
                 work,
                 output,
             )

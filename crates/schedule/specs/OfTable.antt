@@ -1,13 +1,13 @@
 -- The schedule of a table (000, Algorithm 2): who is where in the running order, in which slot, asks for which slots, and is reached when.
 use Prim.Native.Nat.{ℕ}
 use mathlib.Core.Path.{_≡_}
-use mathlib.Core.Bool.{Bool, cond, not}
+use mathlib.Core.Bool.{Bool, cond}
 use mathlib.Core.List.{List, map}
 use lib.ListN.{getD, take}
 use lib.Dec.{leb}
 use Rattle.model.specs.Lists.{numbers, select, countWhere, sortBy}
 use Rattle.model.specs.Tree.{FFFF, depth}
-use Rattle.model.specs.Jobs.{Table, jobs, bottom, solo, topDepth}
+use Rattle.model.specs.Jobs.{Table, jobs, bottom, asks, highestDepth}
 use Rattle.model.specs.Order.{lexicographic, runningOrder, slot}
 use Rattle.model.specs.Visits.{askedFrom, askedTo}
 use Rattle.schedule.specs.Schedule.{Schedule}
@@ -18,9 +18,9 @@ module _ (tb : Table) where
   abbrev pub jobAt : ℕ → ℕ
   jobAt p = getD (runningOrder tb) p 0
 
-  -- a solo job asks nobody and is never found
+  -- a solo job and a job 0-0 ask nobody and are never found
   unfoldable pub asking : ℕ → Bool
-  asking p = not (solo tb (jobAt p))
+  asking p = asks tb (jobAt p)
 
   -- the depth of the bottom of the job at a place
   unfoldable pub bottomDepth : ℕ → ℕ
@@ -34,9 +34,9 @@ module _ (tb : Table) where
   unfoldable pub reachOrder : List ℕ
   reachOrder = sortBy sooner (select asking (numbers (jobs tb)))
 
-  -- at the turn of a place those are reached whose bottom is as deep as its job's top
+  -- at the turn of a place those are reached whose bottom is as deep as its job's highest layout
   unfoldable pub due : ℕ → ℕ
-  due p = countWhere (λ (q : ℕ). leb (topDepth tb (jobAt p)) (bottomDepth q)) reachOrder
+  due p = countWhere (λ (q : ℕ). leb (highestDepth tb (jobAt p)) (bottomDepth q)) reachOrder
 
   unfoldable pub scheduleOf : Schedule
   scheduleOf =

@@ -1,4 +1,4 @@
--- The slots that a lookup asks for (document 01, "The shelf and its cells"): those whose first leaf lies in the leaf span of the job's top. They are the
+-- The slots that a lookup asks for (document 01, "The shelf and its cells"): those whose first leaf lies in the leaf span of the job's highest layout. They are the
 -- slots from the number of jobs left of the span up to the number of jobs left of its end.
 use Prim.Native.Nat.{ℕ, zero, suc, _+_, _-_, _<_, _≤_}
 use mathlib.Core.Path.{_≡_, refl, sym, ap, _∙_}
@@ -12,7 +12,7 @@ use lib.Dec.{ltb, leb}
 use borrow.Author.Tests.{lt-ltb, le-ltb, le-leb, lt-leb, ltb-true}
 use Rattle.model.specs.Lists.{numbersFrom, numbers, select, countWhere}
 use Rattle.model.specs.Tree.{firstLeaf, lastLeaf}
-use Rattle.model.specs.Jobs.{Table, jobs, top, bottomLeaf}
+use Rattle.model.specs.Jobs.{Table, jobs, highest, bottomLeaf}
 use Rattle.model.specs.Order.{leftward, slotOrder, slot, place}
 use Rattle.model.specs.Visits.{asksFor, askedSlots, askedFrom, askedTo}
 use Rattle.laws.specs.Lists.{getD-mem, mem-all, select-agree}
@@ -20,6 +20,7 @@ use Rattle.laws.specs.Numbers.{numbers-mem, range-head, range-length}
 use Rattle.laws.specs.Sorting.{irreflexive}
 use Rattle.laws.specs.Counting.{count-bound, count-le, count-lt}
 use Rattle.tree_laws.specs.Spans.{ancestor-span}
+use Rattle.tree_laws.specs.Sharing.{highest-above}
 use Rattle.jobs.specs.Accepted.{Accepted}
 use Rattle.matching.specs.RunningOrder.{lexicographic-true, lexicographic-first, leftward-order, slots-mem, slots-length, slot-count, slot-of-job}
 
@@ -108,14 +109,14 @@ module _ (tb : Table) where
   module _ (i : ℕ) where
     -- the slots asked for as a span: from the number of jobs left of the leaf span up to the number of jobs left of its end
     abbrev start : ℕ
-    start = leftOf (firstLeaf (tb .parents) (top tb i))
+    start = leftOf (firstLeaf (tb .parents) (highest tb i))
 
     abbrev end : ℕ
-    end = leftOf (suc (lastLeaf (tb .parents) (top tb i)))
+    end = leftOf (suc (lastLeaf (tb .parents) (highest tb i)))
 
-    -- a job's slot lies there exactly if the first leaf of its bottom lies in the span of the top
-    slot-between : (j : ℕ) → j < jobs tb → between start end (slot tb j) ≡ (leb (firstLeaf (tb .parents) (top tb i)) (bottomLeaf tb j) && leb (bottomLeaf tb j) (lastLeaf (tb .parents) (top tb i)))
-    slot-between j h = rw (lower j (firstLeaf (tb .parents) (top tb i)) h, upper j (lastLeaf (tb .parents) (top tb i)) h) refl
+    -- a job's slot lies there exactly if the first leaf of its bottom lies in the span of the highest layout
+    slot-between : (j : ℕ) → j < jobs tb → between start end (slot tb j) ≡ (leb (firstLeaf (tb .parents) (highest tb i)) (bottomLeaf tb j) && leb (bottomLeaf tb j) (lastLeaf (tb .parents) (highest tb i)))
+    slot-between j h = rw (lower j (firstLeaf (tb .parents) (highest tb i)) h, upper j (lastLeaf (tb .parents) (highest tb i)) h) refl
 
     asks-between : (s : ℕ) → s < jobs tb → asksFor tb i s ≡ between start end s
     unfolding asksFor
@@ -128,38 +129,38 @@ module _ (tb : Table) where
     own-start : start i ≤ slot tb i
     unfolding bottomLeaf
     own-start =
-        let own = ancestor-span (tb .parents) (a .tree) (a .bottom-known i known) (a .downward i known) in
-        slot-right i (firstLeaf (tb .parents) (top tb i)) known (own .0 .first)
+        let own = ancestor-span (tb .parents) (a .tree) (a .bottom-known i known) (highest-above tb (a .tree) i (a .downward i known)) in
+        slot-right i (firstLeaf (tb .parents) (highest tb i)) known (own .0 .first)
 
     own-end : slot tb i < end i
     unfolding bottomLeaf
     own-end =
-        let own = ancestor-span (tb .parents) (a .tree) (a .bottom-known i known) (a .downward i known) in
-        slot-left i (suc (lastLeaf (tb .parents) (top tb i))) known (omega (arith, own .0 .last))
+        let own = ancestor-span (tb .parents) (a .tree) (a .bottom-known i known) (highest-above tb (a .tree) i (a .downward i known)) in
+        slot-left i (suc (lastLeaf (tb .parents) (highest tb i))) known (omega (arith, own .0 .last))
 
     -- the slots asked for are those from `start` up to `end`
     pub asked-range : askedSlots tb i ≡ numbersFrom (start i) (end i - start i)
     unfolding askedSlots numbers
     asked-range =
         select-agree (asksFor tb i) (between (start i) (end i)) (numbers (jobs tb)) (mem-all (λ (s : ℕ). asksFor tb i s ≡ between (start i) (end i) s) (numbers (jobs tb)) (λ s m. asks-between i s (numbers-mem (jobs tb) m)))
-        ∙ select-range (start i) (end i) 0 (jobs tb) (omega (arith, own-start, own-end)) (omega arith) (omega (arith, left-bound (suc (lastLeaf (tb .parents) (top tb i)))))
+        ∙ select-range (start i) (end i) 0 (jobs tb) (omega (arith, own-start, own-end)) (omega arith) (omega (arith, left-bound (suc (lastLeaf (tb .parents) (highest tb i)))))
 
     -- so the span begins at the number of jobs left of the leaf span
-    pub from-is : askedFrom tb i ≡ leftOf (firstLeaf (tb .parents) (top tb i))
+    pub from-is : askedFrom tb i ≡ leftOf (firstLeaf (tb .parents) (highest tb i))
     unfolding askedFrom
     from-is = rw asked-range (range-head (start i) (end i - start i) 0 (omega (arith, own-start, own-end)))
 
     -- and ends at the number of jobs left of its end
-    pub to-is : askedTo tb i ≡ leftOf (suc (lastLeaf (tb .parents) (top tb i)))
+    pub to-is : askedTo tb i ≡ leftOf (suc (lastLeaf (tb .parents) (highest tb i)))
     unfolding askedTo
     to-is = rw (from-is, asked-range, range-length (start i) (end i - start i)) (omega (arith, own-start, own-end))
 
-    -- the slot of a job is asked for exactly if its first leaf lies in the span of the top of i
-    pub asked-slot : (j : ℕ) → j < jobs tb → (leb (askedFrom tb i) (slot tb j) && ltb (slot tb j) (askedTo tb i)) ≡ (leb (firstLeaf (tb .parents) (top tb i)) (bottomLeaf tb j) && leb (bottomLeaf tb j) (lastLeaf (tb .parents) (top tb i)))
+    -- the slot of a job is asked for exactly if its first leaf lies in the span of the highest layout of i
+    pub asked-slot : (j : ℕ) → j < jobs tb → (leb (askedFrom tb i) (slot tb j) && ltb (slot tb j) (askedTo tb i)) ≡ (leb (firstLeaf (tb .parents) (highest tb i)) (bottomLeaf tb j) && leb (bottomLeaf tb j) (lastLeaf (tb .parents) (highest tb i)))
     asked-slot j h = rw (from-is, to-is) (slot-between i j h)
 
     pub asked-bound : askedTo tb i ≤ jobs tb
-    asked-bound = rw to-is (left-bound (suc (lastLeaf (tb .parents) (top tb i))))
+    asked-bound = rw to-is (left-bound (suc (lastLeaf (tb .parents) (highest tb i))))
 
     pub asks-itself : slot tb i < askedTo tb i
     asks-itself = rw to-is own-end

@@ -1,5 +1,5 @@
 -- The order in which the sweep reaches the bottoms, and how far it has come at a turn: the places reached are those that ask and whose bottoms are as deep
--- as the top at hand.
+-- as the highest layout at hand.
 use Prim.Native.Nat.{ℕ, suc, _<_, _≤_}
 use mathlib.Core.Path.{_≡_, refl, sym, ap, _∙_}
 use mathlib.Core.Logic.{⊎-elim, _≢_}
@@ -11,7 +11,7 @@ use lib.ListN.{length, getD, take}
 use lib.Dec.{leb}
 use borrow.Author.Tests.{le-leb, leb-true}
 use Rattle.model.specs.Lists.{numbers, elem, indexOf, select, countWhere, All, AllPairs}
-use Rattle.model.specs.Jobs.{Table, jobs, topDepth}
+use Rattle.model.specs.Jobs.{Table, jobs, highestDepth}
 use Rattle.laws.specs.Lists.{Distinct, all-mem, mem-all, elem-mem, mem-elem, select-mem, mem-select, select-pairwise, getD-mem, pairwise-imply}
 use Rattle.laws.specs.Booleans.{answers, same-test}
 use Rattle.laws.specs.Numbers.{mem-numbers, numbers-mem, numbers-distinct}
@@ -19,6 +19,7 @@ use Rattle.laws.specs.Counting.{count-none, count-all, count-length, count-sele
 use Rattle.laws.specs.Places.{index-getD, index-take}
 use Rattle.laws.specs.Sorting.{StrictOrder, Before, sort-mem, mem-sort, sort-length, sort-count, sort-sorted, sort-rank, sorted-distinct}
 use Rattle.tree_laws.specs.Ancestors.{ancestor-depth}
+use Rattle.tree_laws.specs.Sharing.{highest-above}
 use Rattle.jobs.specs.Accepted.{Accepted}
 use Rattle.matching.specs.RunningOrder.{lexicographic-true, lexicographic-asymmetric, lexicographic-falling, lexicographic-total}
 use Rattle.schedule.specs.OfTable.{jobAt, asking, bottomDepth, sooner, reachOrder, due}
@@ -97,9 +98,9 @@ module _ (tb : Table) where
   pub reach-at : (r : ℕ) → r < length (reachOrder tb) → (reachAt r < jobs tb) × (asking tb (reachAt r) ≡ true)
   reach-at r h = reach-mem (getD-mem (reachOrder tb) r 0 h)
 
-  -- a bottom is as deep as the top at place p
+  -- a bottom is as deep as the highest layout at place p
   abbrev pub deep : ℕ → ℕ → Bool
-  deep p q = leb (topDepth tb (jobAt tb p)) (bottomDepth tb q)
+  deep p q = leb (highestDepth tb (jobAt tb p)) (bottomDepth tb q)
 
   -- what is reached at the turn of place p
   due-part : (p : ℕ) → take (due tb p) (reachOrder tb) ≡ select (deep p) (reachOrder tb)
@@ -107,7 +108,7 @@ module _ (tb : Table) where
   due-part p =
       leading-part (deep p) (reachOrder tb)
       (pairwise-imply (Before (sooner tb)) (λ (x y : ℕ). deep p y ≡ true → deep p x ≡ true) (reachOrder tb)
-      (λ x y m n s e. le-leb (topDepth tb (jobAt tb p)) (bottomDepth tb x) (omega (arith, leb-true (topDepth tb (jobAt tb p)) (bottomDepth tb y) e, sooner-depth x y s)))
+      (λ x y m n s e. le-leb (highestDepth tb (jobAt tb p)) (bottomDepth tb x) (omega (arith, leb-true (highestDepth tb (jobAt tb p)) (bottomDepth tb y) e, sooner-depth x y s)))
       reach-sorted)
 
   pub reached-deep : (p q : ℕ) → q < jobs tb → elem q (take (due tb p) (reachOrder tb)) ≡ (asking tb q && deep p q)
@@ -138,21 +139,21 @@ module _ (tb : Table) where
   unfolding due
   due-later p q l h =
       count-implies (deep p) (deep q) (reachOrder tb)
-      (λ u e. le-leb (topDepth tb (jobAt tb q)) (bottomDepth tb u) (omega (arith, leb-true (topDepth tb (jobAt tb p)) (bottomDepth tb u) e, later-depth tb p q l h)))
+      (λ u e. le-leb (highestDepth tb (jobAt tb q)) (bottomDepth tb u) (omega (arith, leb-true (highestDepth tb (jobAt tb p)) (bottomDepth tb u) e, later-depth tb p q l h)))
 
   -- ---- accepted tables
 
   module _ (a : Accepted tb) where
-    -- at its own turn a place is deep enough: its bottom is as deep as its top
-    own-deep : (p : ℕ) → p < jobs tb → topDepth tb (jobAt tb p) ≤ bottomDepth tb p
-    unfolding topDepth bottomDepth
-    own-deep p h = ancestor-depth (tb .parents) (a .tree) (a .downward (jobAt tb p) (job-known tb p h))
+    -- at its own turn a place is deep enough: its bottom is as deep as its highest layout
+    own-deep : (p : ℕ) → p < jobs tb → highestDepth tb (jobAt tb p) ≤ bottomDepth tb p
+    unfolding highestDepth bottomDepth
+    own-deep p h = ancestor-depth (tb .parents) (a .tree) (highest-above tb (a .tree) (jobAt tb p) (a .downward (jobAt tb p) (job-known tb p h)))
 
     -- so it is reached at its own turn at the latest
     pub reached-in-time : (r : ℕ) → r < length (reachOrder tb) → r < due tb (reachAt r)
     reached-in-time r h =
         let p = reach-at r h in
-        let own : deep (reachAt r) (reachAt r) ≡ true = le-leb (topDepth tb (jobAt tb (reachAt r))) (bottomDepth tb (reachAt r)) (own-deep (reachAt r) (p .0)) in
+        let own : deep (reachAt r) (reachAt r) ≡ true = le-leb (highestDepth tb (jobAt tb (reachAt r))) (bottomDepth tb (reachAt r)) (own-deep (reachAt r) (p .0)) in
         let m : Mem (reachAt r) (take (due tb (reachAt r)) (reachOrder tb)) = elem-mem (reachAt r) (take (due tb (reachAt r)) (reachOrder tb)) (reached-deep (reachAt r) (reachAt r) (p .0) ∙ rw (p .1, own) refl) in
         omega (arith, index-take (due tb (reachAt r)) (reachOrder tb) m, index-getD (reachOrder tb) r 0 reach-distinct h)
 
@@ -161,9 +162,9 @@ module _ (tb : Table) where
     unfolding due
     due-last p last =
         count-all (deep p) (reachOrder tb)
-        (mem-all (λ (q : ℕ). deep p q ≡ true) (reachOrder tb) (λ q m. le-leb (topDepth tb (jobAt tb p)) (bottomDepth tb q) (enough q (reach-mem m .0))))
+        (mem-all (λ (q : ℕ). deep p q ≡ true) (reachOrder tb) (λ q m. le-leb (highestDepth tb (jobAt tb p)) (bottomDepth tb q) (enough q (reach-mem m .0))))
       where
-        enough : (q : ℕ) → q < jobs tb → topDepth tb (jobAt tb p) ≤ bottomDepth tb q
+        enough : (q : ℕ) → q < jobs tb → highestDepth tb (jobAt tb p) ≤ bottomDepth tb q
         enough q h = elim (ℕ-discrete q p) [
           | yes same ↦ rw (← same) (own-deep q h)
           | no other ↦ omega (arith, own-deep q h, later-depth tb q p (omega arith) (omega arith))

@@ -3,16 +3,16 @@
 use Prim.Native.Nat.{ℕ, _<_, _≤_, _^_}
 use mathlib.Core.Path.{_≡_, refl, sym, ap, _∙_}
 use mathlib.Core.Logic.{⊎-elim}
-use mathlib.Core.Bool.{Bool, true, false, cond, _&&_}
+use mathlib.Core.Bool.{Bool, true, false, cond, not, _&&_, and-eq-true-iff}
 use mathlib.Core.List.{map}
 use native.Mathlib.Omega.{arith}
 use native.Mathlib.Decide.{ℕ-discrete}
 use lib.ListN.{length, length-map}
 use lib.Dec.{leb, ltb}
-use borrow.Author.Tests.{lt-ltb, le-leb, ne-eqb, not-true, not-false}
+use borrow.Author.Tests.{lt-ltb, le-leb, ne-eqb, not-true}
 use Rattle.model.specs.Lists.{numbers, indexOf, total}
 use Rattle.model.specs.Tree.{FFFF}
-use Rattle.model.specs.Jobs.{Table, jobs, solo, shares, topDepth}
+use Rattle.model.specs.Jobs.{Table, jobs, solo, bare, asks, shares, highestDepth}
 use Rattle.model.specs.Order.{slot}
 use Rattle.model.specs.Greedy.{compatible, passes}
 use Rattle.model.specs.Visits.{levels, askedFrom, askedTo, lookupVisits, passVisits, cellCount}
@@ -24,6 +24,7 @@ use Rattle.laws.specs.Places.{index-getD}
 use Rattle.laws.specs.Levels.{levels-wide}
 use Rattle.laws.specs.Counting.{count-bound}
 use Rattle.jobs.specs.Accepted.{Accepted}
+use Rattle.matching.specs.Compatible.{compatible-asks}
 use Rattle.matching.specs.RunningOrder.{place-of-job, slot-lt, slot-injective}
 use Rattle.matching.specs.Renamed.{renamed, greedy-renamed, pairs-renamed, total-renamed}
 use Rattle.schedule.specs.Schedule.{places, slotAt, fromAt, toAt, dueAt, fits, passesByPlace, visitsAt, visitsOf, totalVisits, Sound}
@@ -50,14 +51,15 @@ module _ (tb : Table) where
   unfolding scheduleOf
   reached-is = refl
 
-  -- those ask whose job is not solo
-  solo-false : (p : ℕ) → asking tb p ≡ true → solo tb (jobAt tb p) ≡ false
+  -- those ask whose job does
+  asking-is : (p : ℕ) → asks tb (jobAt tb p) ≡ asking tb p
   unfolding asking
-  solo-false p e = not-true (solo tb (jobAt tb p)) e
+  asking-is p = refl
 
-  solo-true : (p : ℕ) → asking tb p ≡ false → solo tb (jobAt tb p) ≡ true
-  unfolding asking
-  solo-true p e = not-false (solo tb (jobAt tb p)) e
+  -- and such a job is no job 0-0
+  asking-proper : (p : ℕ) → asking tb p ≡ true → bare tb (jobAt tb p) ≡ false
+  unfolding asking asks
+  asking-proper p e = not-true (bare tb (jobAt tb p)) (and-eq-true-iff (not (solo tb (jobAt tb p))) (not (bare tb (jobAt tb p))) .0 e .1)
 
   module _ (p : ℕ) (h : p < jobs tb) where
     slot-is : slotAt (scheduleOf tb) p ≡ slot tb (jobAt tb p)
@@ -133,7 +135,7 @@ module _ (tb : Table) where
       p-known = omega arith
 
       -- a place that asks fits a later one that can be found, has its bottom deep enough, and its slot in the span
-      fits-asking : asking tb p ≡ true → fits (scheduleOf tb) p q ≡ ((asking tb q && leb (topDepth tb (jobAt tb p)) (bottomDepth tb q)) && (leb (askedFrom tb (jobAt tb p)) (slot tb (jobAt tb q)) && ltb (slot tb (jobAt tb q)) (askedTo tb (jobAt tb p))))
+      fits-asking : asking tb p ≡ true → fits (scheduleOf tb) p q ≡ ((asking tb q && leb (highestDepth tb (jobAt tb p)) (bottomDepth tb q)) && (leb (askedFrom tb (jobAt tb p)) (slot tb (jobAt tb q)) && ltb (slot tb (jobAt tb q)) (askedTo tb (jobAt tb p))))
       unfolding fits
       fits-asking e =
           let from : fromAt (scheduleOf tb) p ≡ askedFrom tb (jobAt tb p) = from-at p p-known ∙ rw e refl in
@@ -147,20 +149,20 @@ module _ (tb : Table) where
           let to : toAt (scheduleOf tb) p ≡ 0 = to-at p p-known ∙ rw e refl in
           rw to refl
 
-      shares-asked : shares tb (jobAt tb p) (jobAt tb q) ≡ (leb (askedFrom tb (jobAt tb p)) (slot tb (jobAt tb q)) && ltb (slot tb (jobAt tb q)) (askedTo tb (jobAt tb p)) && leb (topDepth tb (jobAt tb p)) (bottomDepth tb q))
+      shares-asked : asking tb p ≡ true → shares tb (jobAt tb p) (jobAt tb q) ≡ (leb (askedFrom tb (jobAt tb p)) (slot tb (jobAt tb q)) && ltb (slot tb (jobAt tb q)) (askedTo tb (jobAt tb p)) && leb (highestDepth tb (jobAt tb p)) (bottomDepth tb q))
       unfolding bottomDepth
-      shares-asked =
+      shares-asked e =
           rw (asked-slot tb a (jobAt tb p) (job-known tb p p-known) (jobAt tb q) (job-known tb q h))
-          (theorem-6-by-place tb a (jobAt tb p) (jobAt tb q) (job-known tb p p-known) (job-known tb q h) (rw (place-of-job tb p 0 p-known, place-of-job tb q 0 h) l)
-          ∙ rw (le-leb (topDepth tb (jobAt tb q)) (topDepth tb (jobAt tb p)) (later-depth tb p q l h)) refl)
+          (theorem-6-by-place tb a (jobAt tb p) (jobAt tb q) (job-known tb p p-known) (job-known tb q h) (asking-proper p e) (rw (place-of-job tb p 0 p-known, place-of-job tb q 0 h) l)
+          ∙ rw (le-leb (highestDepth tb (jobAt tb q)) (highestDepth tb (jobAt tb p)) (later-depth tb p q l h)) refl)
 
+      -- jobs are compatible if both ask and they share: a job 0-0 shares with none
       compatible-is : compatible tb (jobAt tb p) (jobAt tb q) ≡ (asking tb p && asking tb q && shares tb (jobAt tb p) (jobAt tb q))
-      unfolding compatible asking
-      compatible-is = refl
+      compatible-is = rw (← asking-is p, ← asking-is q) (compatible-asks tb (a .tree) (jobAt tb p) (jobAt tb q) (a .downward (jobAt tb p) (job-known tb p p-known)) (a .downward (jobAt tb q) (job-known tb q h)))
 
       pub schedule-fits : fits (scheduleOf tb) p q ≡ compatible tb (jobAt tb p) (jobAt tb q)
       schedule-fits = ⊎-elim
-          (λ (e : asking tb p ≡ true). fits-asking e ∙ sym (compatible-is ∙ rw (e, shares-asked) (regroup (asking tb q) (leb (topDepth tb (jobAt tb p)) (bottomDepth tb q)) (leb (askedFrom tb (jobAt tb p)) (slot tb (jobAt tb q)) && ltb (slot tb (jobAt tb q)) (askedTo tb (jobAt tb p))))))
+          (λ (e : asking tb p ≡ true). fits-asking e ∙ sym (compatible-is ∙ rw (e, shares-asked e) (regroup (asking tb q) (leb (highestDepth tb (jobAt tb p)) (bottomDepth tb q)) (leb (askedFrom tb (jobAt tb p)) (slot tb (jobAt tb q)) && ltb (slot tb (jobAt tb q)) (askedTo tb (jobAt tb p))))))
           (λ (e : asking tb p ≡ false). fits-silent e ∙ sym (compatible-is ∙ rw e refl))
           (answers (asking tb p))
 
@@ -188,10 +190,10 @@ module _ (tb : Table) where
         (λ (e : asking tb p ≡ true).
         let from : fromAt (scheduleOf tb) p ≡ askedFrom tb (jobAt tb p) = from-at p h ∙ rw e refl in
         let to : toAt (scheduleOf tb) p ≡ askedTo tb (jobAt tb p) = to-at p h ∙ rw e refl in
-        rw (ne-eqb (toAt (scheduleOf tb) p) 0 (λ z. omega (arith, to-positive p h e)), from, to, places-are, solo-false p e) refl)
+        rw (ne-eqb (toAt (scheduleOf tb) p) 0 (λ z. omega (arith, to-positive p h e)), from, to, places-are, asking-is p, e) refl)
         (λ (e : asking tb p ≡ false).
         let to : toAt (scheduleOf tb) p ≡ 0 = to-at p h ∙ rw e refl in
-        rw (to, solo-true p e) refl)
+        rw (to, asking-is p, e) refl)
         (answers (asking tb p))
 
     pub schedule-visits : totalVisits (scheduleOf tb) ≡ cellCount tb

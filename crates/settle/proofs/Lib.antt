@@ -1,6 +1,6 @@
 -- Laws that the proofs of settling cite.
 pub mod Laws
 pub mod Links
-pub mod Depths
+pub mod WaysUp
 pub mod Walk
 pub mod Outcome

@@ -3,17 +3,16 @@ use Prim.Native.Nat.{ℕ, _+_, _<_, _≤_}
 use mathlib.Core.Path.{_≡_, refl, sym, _∙_}
 use mathlib.Core.Bool.{and-true}
 use mathlib.Core.List.{List, [], _∷_}
-use native.Mathlib.Nat.{zero-add}
 use native.Mathlib.Omega.{arith}
 use lib.ListN.{length, getD, replicate, length-replicate, getD-replicate}
 use lib.Dec.{ltb}
 use borrow.Author.Tests.{lt-ltb, le-ltb}
 use Rattle.model.specs.Verdict.{refused, refuseIf, answer, gives, refuses}
-use Rattle.model.specs.Tree.{FFFF, layoutLimit, layoutsFrom, treeVerdict, depth, firstLeaf, lastLeaf}
+use Rattle.model.specs.Tree.{FFFF, layoutLimit, layoutsFrom, treeVerdict, firstLeaf, lastLeaf}
 use Rattle.tree_laws.specs.WellFormed.{Tree}
 use Rattle.tree_laws.specs.Ancestors.{true-ancestor, ancestor-root}
 use Rattle.tree_laws.specs.Leaves.{first-root}
-use Rattle.settle.specs.Spanned.{firstCells, lastCells, treeCells, Spanned}
+use Rattle.settle.specs.Spanned.{branchCells, firstCells, lastCells, treeCells, WaysUp, Spanned}
 use Rattle.settle.specs.Checked.{layoutsVerdict, over-limit, within-limit}
 use Rattle.settle.specs.Numbering.{FirstWrong, linkCells, Unlinked, Linked, Stamped, below, inSubtree, Numberable, Numbered}
 use Rattle.settle.specs.Stamps.{stamped-as, stamped-at}
@@ -58,8 +57,8 @@ unlinked ps h = record { room = length-replicate linkCells FFFF; empty = λ x in
 pub root-numberable : (ps links cells : List ℕ) → Tree ps → Linked ps links → length cells ≡ treeCells → Numberable ps links 0 0 cells
 root-numberable ps links cells t l room = record { tree = t; linked = l; room = room; known = t .nonempty; start = sym (first-root ps t) }
 
--- depths first, then the leaves of layout 0 and its descendants, which are all layouts
-module _ (ps : List ℕ) (t : Tree ps) (old deep new : List ℕ) (room : length deep ≡ treeCells) (d : Stamped 0 layoutLimit (below (length ps)) (depth ps) old deep) (r : ℕ) (n : Numbered ps (inSubtree ps 0) 0 deep r new) where
+-- ways up first, then the leaves of layout 0 and its descendants, which are all layouts
+module _ (ps : List ℕ) (t : Tree ps) (deep new : List ℕ) (w : WaysUp ps (length ps) deep) (r : ℕ) (n : Numbered ps (inSubtree ps 0) 0 deep r new) where
   every : (y : ℕ) → inSubtree ps 0 y ≡ below (length ps) y
   every y = rw (true-ancestor ps t (ancestor-root ps t y)) (and-true (ltb y (length ps)))
 
@@ -70,8 +69,9 @@ module _ (ps : List ℕ) (t : Tree ps) (old deep new : List ℕ) (room : length 
   tree-spanned =
       record {
         tree = t;
-        room = n .same ∙ room;
-        depth-at = λ x h. n .depths-kept x (omega (arith, t .small)) ∙ (rw (zero-add x) at (stamped-at 0 layoutLimit (length ps) (depth ps) old deep d x h (omega (arith, t .small))));
+        room = n .same ∙ w .room;
+        depth-at = λ x h. n .ways-kept x (omega (arith, t .small)) ∙ w .depth-at x h;
+        branch-at = λ x h. n .ways-kept (branchCells + x) (omega (arith, t .small)) ∙ w .branch-at x h;
         first-at = leaf-at firstCells (firstLeaf ps) (n .firsts-hold);
         last-at = leaf-at lastCells (lastLeaf ps) (n .lasts-hold);
       }

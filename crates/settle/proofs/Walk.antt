@@ -116,7 +116,7 @@ pub record ChildrenDone (ps : List ℕ) (x : ℕ) (old new : List ℕ) (c after 
   pub current : c ≡ headD rest FFFF
   pub next-leaf : after ≡ firstLeaf ps x + length (flatMap (leaves ps) done)
   pub same : length new ≡ length old
-  pub depths-kept : (y : ℕ) → y < layoutLimit → getD new y 0 ≡ getD old y 0
+  pub ways-kept : (y : ℕ) → y < firstCells → getD new y 0 ≡ getD old y 0
   pub firsts-hold : Stamped firstCells layoutLimit (under ps done) (firstLeaf ps) old new
   pub lasts-hold : Stamped lastCells layoutLimit (under ps done) (lastLeaf ps) old new
 
@@ -151,7 +151,7 @@ module _ (ps : List ℕ) (t : Tree ps) (x : ℕ) (known : x < length ps) where
         current = e ∙ ap (λ (l : List ℕ). headD l FFFF) (children-from ps x);
         next-leaf = start ∙ sym (add-zero (firstLeaf ps x));
         same = refl;
-        depths-kept = λ y h. refl;
+        ways-kept = λ y h. refl;
         firsts-hold = nothing-under firstCells ps (firstLeaf ps) cells;
         lasts-hold = nothing-under lastCells ps (lastLeaf ps) cells;
       }
@@ -203,7 +203,7 @@ module _ (ps : List ℕ) (t : Tree ps) (x : ℕ) (known : x < length ps) where
           current = linked .sibling-at c (h .positive) (h .inside) ∙ rw (h .parent, children-after ps x (d .done) c (h .tail) (h .split));
           next-leaf = n .after ∙ rw (← (h .start), d .next-leaf, flat-more (leaves ps) (d .done) c, length-append (flatMap (leaves ps) (d .done)) (leaves ps c)) (omega arith);
           same = n .same ∙ d .same;
-          depths-kept = λ y k. n .depths-kept y k ∙ d .depths-kept y k;
+          ways-kept = λ y k. n .ways-kept y k ∙ d .ways-kept y k;
           firsts-hold = more-under firstCells (firstLeaf ps) newer (d .firsts-hold) (n .firsts-hold);
           lasts-hold = more-under lastCells (lastLeaf ps) newer (d .lasts-hold) (n .lasts-hold);
         }
@@ -226,7 +226,7 @@ module _ (ps : List ℕ) (t : Tree ps) (x : ℕ) (known : x < length ps) where
         record {
           after = d .next-leaf ∙ rw (whole, leaves-of-children ps t x known some);
           same = d .same;
-          depths-kept = d .depths-kept;
+          ways-kept = d .ways-kept;
           firsts-hold = stamped-as firstCells layoutLimit (under ps (d .done)) (properlyInSubtree ps x) (firstLeaf ps) old new all (d .firsts-hold);
           lasts-hold = stamped-as lastCells layoutLimit (under ps (d .done)) (properlyInSubtree ps x) (lastLeaf ps) old new all (d .lasts-hold);
         }
@@ -250,7 +250,7 @@ module _ (ps links : List ℕ) (x next : ℕ) (cells : List ℕ) (n : Numberable
       record {
         after = rw (n .start, leaves-of-leaf ps (n .tree) x (n .known) none);
         same = refl;
-        depths-kept = λ y h. refl;
+        ways-kept = λ y h. refl;
         firsts-hold = stamped-as firstCells layoutLimit (under ps []) (properlyInSubtree ps x) (firstLeaf ps) cells cells nobody (nothing-under firstCells ps (firstLeaf ps) cells);
         lasts-hold = stamped-as lastCells layoutLimit (under ps []) (properlyInSubtree ps x) (lastLeaf ps) cells cells nobody (nothing-under lastCells ps (lastLeaf ps) cells);
       }
@@ -278,7 +278,7 @@ module _ (ps links : List ℕ) (x next : ℕ) (cells : List ℕ) (n : Numberable
       record {
         after = b .after;
         same = rw (length-set, length-set) (b .same);
-        depths-kept = λ y h. getD-set-other (set new (firstCells + x) next) (lastCells + x) y (r - 1) 0 (omega arith) ∙ getD-set-other new (firstCells + x) y next 0 (omega arith) ∙ b .depths-kept y h;
+        ways-kept = λ y h. getD-set-other (set new (firstCells + x) next) (lastCells + x) y (r - 1) 0 (omega arith) ∙ getD-set-other new (firstCells + x) y next 0 (omega arith) ∙ b .ways-kept y h;
         firsts-hold = stamped-other firstCells layoutLimit (inSubtree ps x) (firstLeaf ps) cells (set new (firstCells + x) next) (lastCells + x) (r - 1) (λ y h e. omega arith)
             (own-cell firstCells (firstLeaf ps) cells new next (omega arith) (n .start) (b .firsts-hold));
         lasts-hold = own-cell lastCells (lastLeaf ps) cells (set new (firstCells + x) next) (r - 1) (omega arith) last

@@ -71,11 +71,11 @@ pub record Numberable (ps links : List ℕ) (x next : ℕ) (cells : List ℕ) : 
   pub known : x < length ps
   pub start : next ≡ firstLeaf ps x
 
--- first and last leaf of the layouts that pass the test are written, no depth is, and r is the number after the last leaf of x
+-- first and last leaf of the layouts that pass the test are written, no way up is, and r is the number after the last leaf of x
 pub record Numbered (ps : List ℕ) (p : ℕ → Bool) (x : ℕ) (old : List ℕ) (r : ℕ) (new : List ℕ) : Type 0 where
   pub after : r ≡ firstLeaf ps x + length (leaves ps x)
   pub same : length new ≡ length old
-  pub depths-kept : (y : ℕ) → y < layoutLimit → getD new y 0 ≡ getD old y 0
+  pub ways-kept : (y : ℕ) → y < firstCells → getD new y 0 ≡ getD old y 0
   pub firsts-hold : Stamped firstCells layoutLimit p (firstLeaf ps) old new
   pub lasts-hold : Stamped lastCells layoutLimit p (lastLeaf ps) old new
 

@@ -1,29 +1,44 @@
--- A tree whose layouts are settled: depth, first leaf and last leaf of each stand in one tree array.
+-- A tree whose layouts are settled: depth, branch, first leaf and last leaf of each stand in one tree array.
 use Prim.Native.Nat.{ℕ, _+_, _<_, _≤_}
 use mathlib.Core.Path.{_≡_, refl, sym, _∙_}
-use mathlib.Core.Bool.{false, _&&_}
+use mathlib.Core.Bool.{false, cond, _&&_}
 use mathlib.Core.List.{List}
 use lib.ListN.{length, getD}
-use lib.Dec.{leb}
+use lib.Dec.{eqb, leb}
 use borrow.Author.Tests.{le-leb, lt-leb}
 use Rattle.model.specs.Tree.{layoutLimit, depth, firstLeaf, lastLeaf, ancestorOrSelf}
 use Rattle.tree_laws.specs.WellFormed.{Tree}
 use Rattle.tree_laws.specs.Spans.{ancestor-test}
+use Rattle.tree_laws.specs.Branches.{branch}
 
--- where a tree array has the first leaves and the last leaves, after the depths; and how many cells it has
+-- where a tree array has the branches, the first leaves and the last leaves, after the depths; and how many cells it has
+abbrev pub branchCells : ℕ
+branchCells = layoutLimit
+
 abbrev pub firstCells : ℕ
-firstCells = layoutLimit
+firstCells = layoutLimit + layoutLimit
 
 abbrev pub lastCells : ℕ
-lastCells = layoutLimit + layoutLimit
+lastCells = layoutLimit + layoutLimit + layoutLimit
 
 abbrev pub treeCells : ℕ
-treeCells = layoutLimit + layoutLimit + layoutLimit
+treeCells = layoutLimit + layoutLimit + layoutLimit + layoutLimit
+
+-- the branch of x, given its parent's
+abbrev pub branchBelow : ℕ → ℕ → ℕ
+branchBelow x above = cond (eqb above 0) x above
+
+-- the ways up from the first n layouts
+pub record WaysUp (ps : List ℕ) (n : ℕ) (cells : List ℕ) : Type 0 where
+  pub room : length cells ≡ treeCells
+  pub depth-at : (x : ℕ) → x < n → getD cells x 0 ≡ depth ps x
+  pub branch-at : (x : ℕ) → x < n → getD cells (branchCells + x) 0 ≡ branch ps x
 
 pub record Spanned (ps cells : List ℕ) : Type 0 where
   pub tree : Tree ps
   pub room : length cells ≡ treeCells
   pub depth-at : (x : ℕ) → x < length ps → getD cells x 0 ≡ depth ps x
+  pub branch-at : (x : ℕ) → x < length ps → getD cells (branchCells + x) 0 ≡ branch ps x
   pub first-at : (x : ℕ) → x < length ps → getD cells (firstCells + x) 0 ≡ firstLeaf ps x
   pub last-at : (x : ℕ) → x < length ps → getD cells (lastCells + x) 0 ≡ lastLeaf ps x
 

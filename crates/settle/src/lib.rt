@@ -1,4 +1,4 @@
-// Depth, first leaf and last leaf of each layout in a tree array, and the check of the parents that they come from.
+// Depth, branch, first leaf and last leaf of each layout in a tree array, and the check of the parents that they come from.
 use buffers::wide;
 use model::LayoutNumber;
 use model::Refusal;
@@ -9,20 +9,22 @@ ghost use Prim.Native.Nat.{ℕ, _+_, _<_, _≤_};
 ghost use lib.ListN.{length, getD};
 ghost use lib.Dec.{ltb};
 ghost use Rattle.model.specs.Verdict.{refuses, answer, refuseIf, _then_};
-ghost use Rattle.model.specs.Tree.{layoutLimit, rightParent, treeVerdict, depth, ancestorOrSelf};
+ghost use Rattle.model.specs.Tree.{layoutLimit, rightParent, treeVerdict, ancestorOrSelf};
 ghost use Rattle.model.specs.Answers.{settledAnswer};
 ghost use Rattle.tree_laws.specs.WellFormed.{Tree};
-ghost use Rattle.settle.specs.Spanned.{firstCells, lastCells, treeCells, Spanned};
-ghost use Rattle.settle.specs.Numbering.{FirstWrong, Unlinked, Linked, Stamped, below, SomeNumberable, EachNumbered, inSubtree, properlyInSubtree};
+ghost use Rattle.settle.specs.Spanned.{branchCells, firstCells, lastCells, treeCells, branchBelow, WaysUp, Spanned};
+ghost use Rattle.settle.specs.Numbering.{FirstWrong, Unlinked, Linked, SomeNumberable, EachNumbered, inSubtree, properlyInSubtree};
 
-// Where a tree array has the depths, the first leaves and the last leaves of the layouts, by number. The depths come first: that of x is at x.
+// Where a tree array has the depths, the branches, the first leaves and the last leaves of the layouts, by number. The depths come first: that of x is at x.
 pub const DEPTH: usize = 0;
 
-pub const FIRST: usize = LayoutNumber::LIMIT;
+const BRANCH: usize = LayoutNumber::LIMIT;
 
-pub const LAST: usize = 2 * LayoutNumber::LIMIT;
+pub const FIRST: usize = 2 * LayoutNumber::LIMIT;
 
-pub const TREE: usize = 3 * LayoutNumber::LIMIT;
+pub const LAST: usize = 3 * LayoutNumber::LIMIT;
+
+pub const TREE: usize = 4 * LayoutNumber::LIMIT;
 
 // Where the links have the next sibling of each layout, after the first children.
 const SIBLING: usize = LayoutNumber::LIMIT;
@@ -36,6 +38,15 @@ pub fn depth_of(tree: &[u16; TREE], x: LayoutNumber) -> u16
 {
     let at = x.0 as usize;
     tree[at]
+}
+
+// The branch of layout x: its highest ancestor other than layout 0, itself included; 0 for layout 0.
+pub fn branch_of(tree: &[u16; TREE], x: LayoutNumber) -> LayoutNumber
+    requires { ⌜ x .0 < layoutLimit ⌝ }
+    ensures { λ r. ⌜ r .0 ≡ getD (now (tree .entry)) (branchCells + x .0) 0 ⌝ }
+{
+    let at = x.0 as usize;
+    LayoutNumber(tree[BRANCH + at])
 }
 
 // The number of the first leaf of layout x.
@@ -123,18 +134,32 @@ pub fn check_layouts(parents: &[u16]) -> Settled
     Settled::Done
 }
 
-// Sets the depth of each layout: one more than its parent's, which has a smaller number and is set already.
-fn set_depths(parents: &[u16], tree: &mut [u16; TREE])
+// The branch of a layout, given its parent's: that one, or the layout itself where its parent is layout 0, which has branch 0.
+fn branch_below(x: LayoutNumber, above: LayoutNumber) -> LayoutNumber
+    ensures { λ r. ⌜ r .0 ≡ branchBelow (x .0) (above .0) ⌝ }
+{
+    if above.equals(LayoutNumber(0)) {
+        return x;
+    }
+    above
+}
+
+// Sets the way up from each layout, by its parent's, which has a smaller number and is set already: its depth, one more, and its branch. It is one loop, since
+// along a chain both wait for the layout before.
+fn set_ways_up(parents: &[u16], tree: &mut [u16; TREE])
     requires { ⌜ Tree (now parents) ⌝ }
     requires { ⌜ length (now tree) ≡ treeCells ⌝ }
-    ensures { λ r. ⌜ length (now (tree .exit)) ≡ treeCells ⌝ }
-    ensures { λ r. ⌜ Stamped 0 layoutLimit (below (length (now (parents .entry)))) (depth (now (parents .entry))) (now (tree .entry)) (now (tree .exit)) ⌝ }
+    ensures { λ r. ⌜ WaysUp (now (parents .entry)) (length (now (parents .entry))) (now (tree .exit)) ⌝ }
 {
     tree[0] = 0;
+    tree[BRANCH] = 0;
     let mut x = 1;
     while x < parents.len() {
         let p = parents[x] as usize;
+        let above = LayoutNumber(tree[BRANCH + p]);
+        let branch = branch_below(LayoutNumber(x as u16), above);
         tree[x] = tree[p] + 1;
+        tree[BRANCH + x] = branch.0;
         x += 1;
     }
 }
@@ -193,7 +218,7 @@ pub fn settle_tree(parents: &[u16], tree: &mut [u16; TREE])
     requires { ⌜ length (now tree) ≡ treeCells ⌝ }
     ensures { λ r. ⌜ Spanned (now (parents .entry)) (now (tree .exit)) ⌝ }
 {
-    set_depths(parents, tree);
+    set_ways_up(parents, tree);
     let mut links = [model::ABSENT; LINKS];
     link_children(parents, &mut links);
     number(&links, LayoutNumber(0), 0, tree);

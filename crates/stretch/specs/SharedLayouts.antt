@@ -15,7 +15,8 @@ use Rattle.laws.specs.Lists.{elem-mem, mem-elem, getD-mem}
 use Rattle.laws.specs.Booleans.{same-test}
 use Rattle.tree_laws.specs.WellFormed.{Tree}
 use Rattle.tree_laws.specs.Ancestors.{AncestorOrSelf, self, up}
-use Rattle.tree_laws.specs.Sharing.{Downward, path-one, path-up}
+use Rattle.tree_laws.specs.Paths.{path-one, path-up}
+use Rattle.tree_laws.specs.Sharing.{Downward}
 use Rattle.stretch.specs.StretchPaths.{Stands, Descending, shared-in-stretch, stretch-in-both}
 
 -- a path from top to bottom that ends at b

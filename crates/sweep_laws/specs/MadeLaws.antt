@@ -9,8 +9,8 @@ use native.Mathlib.Decide.{ℕ-discrete}
 use native.Mathlib.Numerals.{add-one}
 use lib.ListN.{getD}
 use lib.Dec.{eqb}
-use Rattle.model.specs.Lists.{numbersFrom, numbers, select}
-use Rattle.model.specs.Greedy.{Pass, greedy, without}
+use Rattle.model.specs.Lists.{numbersFrom, numbers, select, without}
+use Rattle.model.specs.Greedy.{Pass, greedy}
 use Rattle.model.specs.Planning.{pairCount}
 use Rattle.laws.specs.Lists.{select-yes, select-no, select-agree, mem-all, total-more}
 use Rattle.laws.specs.Numbers.{range-mem, range-first, numbers-more, range-agree}

@@ -12,9 +12,9 @@ use native.Mathlib.Decide.{ℕ-discrete}
 use lib.ListN.{length, getD, set, length-set}
 use lib.Seq.{getD-set-same, getD-set-other}
 use borrow.Author.Tests.{eq-eqb, ne-eqb, le-ltb}
-use Rattle.model.specs.Lists.{find}
+use Rattle.model.specs.Lists.{find, without}
 use Rattle.model.specs.Tree.{FFFF}
-use Rattle.model.specs.Greedy.{Pass, pair, single, greedy, without}
+use Rattle.model.specs.Greedy.{Pass, pair, single, greedy}
 use Rattle.model.specs.Planning.{pairCount}
 use Rattle.matching.specs.Passes.{greedy-with, greedy-alone}
 use Rattle.schedule.specs.Schedule.{Schedule, toAt, dueAt, fits, visitsAt, visitsOf}

@@ -1,4 +1,4 @@
--- The deepest layout on both paths of two jobs that share, on which the pair prints (document 01, "The tree and the running order").
+-- The deepest layout other than 0 on both paths of two jobs that share, on which the pair prints (document 01, "The tree and the running order", as 2026-01 changed it).
 use Prim.Native.Nat.{ℕ}
 use mathlib.Core.Path.{_≡_}
 use mathlib.Core.Bool.{true}
@@ -9,11 +9,12 @@ use native.Mathlib.Omega.{arith}
 use lib.ListN.{getD}
 use Rattle.model.specs.Lists.{elem, AllPairs}
 use Rattle.model.specs.Tree.{FFFF, depth}
-use Rattle.model.specs.Jobs.{Table, bottom, pathFrom, path, shares, deepestShared}
+use Rattle.model.specs.Jobs.{Table, bottom, pathFrom, ownPath, shares, deepestShared}
 use Rattle.laws.specs.Lists.{mem-all, mem-elem, elem-mem, any-mem, select-mem, mem-select, select-pairwise, head-mem, head-first}
 use Rattle.tree_laws.specs.WellFormed.{Tree}
 use Rattle.tree_laws.specs.Ancestors.{AncestorOrSelf, self, up, ancestor-trans, ancestor-linear}
-use Rattle.tree_laws.specs.Sharing.{path-one, path-up, path-ancestor, ancestor-path, Downward, On}
+use Rattle.tree_laws.specs.Paths.{path-one, path-up, path-ancestor}
+use Rattle.tree_laws.specs.Sharing.{Downward, On, own-on, on-own}
 
 -- a path leads up: each later layout is an ancestor of each earlier
 module _ (ps : List ℕ) (t : Tree ps) where
@@ -24,24 +25,20 @@ module _ (ps : List ℕ) (t : Tree ps) where
 module _ (tb : Table) (t : Tree (tb .parents)) where
   -- if the jobs share, it lies on both paths
   pub deepest-on : (i j : ℕ) → Downward tb i → Downward tb j → shares tb i j ≡ true → On tb (deepestShared tb i j) i × On tb (deepestShared tb i j) j
-  unfolding shares deepestShared path
+  unfolding shares deepestShared
   deepest-on i j a b e =
-      let r = any-mem (λ (x : ℕ). elem x (path tb j)) (path tb i) e in
-      let m = head-mem FFFF (mem-select (λ (x : ℕ). elem x (path tb j)) (r .1 .0) (r .1 .1)) in
-      let s = select-mem (λ (x : ℕ). elem x (path tb j)) (path tb i) m in
-      let p = path-ancestor (tb .parents) t (deepestShared tb i j) a (mem-elem (s .0)) in
-      let q = path-ancestor (tb .parents) t (deepestShared tb i j) b (s .1) in
-      (record { lower = p .0; upper = p .1 }, record { lower = q .0; upper = q .1 })
+      let r = any-mem (λ (x : ℕ). elem x (ownPath tb j)) (ownPath tb i) e in
+      let m = head-mem FFFF (mem-select (λ (x : ℕ). elem x (ownPath tb j)) (r .1 .0) (r .1 .1)) in
+      let s = select-mem (λ (x : ℕ). elem x (ownPath tb j)) (ownPath tb i) m in
+      (own-on tb t i a (s .0), own-on tb t j b (elem-mem (deepestShared tb i j) (ownPath tb j) (s .1)))
 
   -- every layout on both paths is an ancestor of it: of those it is the first that the path of i has
   pub deepest-below : {x : ℕ} (i j : ℕ) → On tb x i → On tb x j → AncestorOrSelf (tb .parents) x (deepestShared tb i j)
-  unfolding deepestShared path
+  unfolding deepestShared
   deepest-below {x} i j p q =
       let ps : List ℕ = tb .parents in
-      let a : Downward tb i = ancestor-trans ps t (p .upper) (p .lower) in
-      let b : Downward tb j = ancestor-trans ps t (q .upper) (q .lower) in
-      let both = mem-select (λ (x : ℕ). elem x (path tb j)) (elem-mem x (path tb i) (ancestor-path ps t a (p .lower) (p .upper))) (ancestor-path ps t b (q .lower) (q .upper)) in
-      let rises = select-pairwise (λ (x : ℕ). elem x (path tb j)) (λ (x y : ℕ). AncestorOrSelf ps y x) (path tb i) (path-rises ps t a) in
+      let both = mem-select (λ (x : ℕ). elem x (ownPath tb j)) (elem-mem x (ownPath tb i) (on-own tb t i p)) (on-own tb t j q) in
+      let rises = select-pairwise (λ (x : ℕ). elem x (ownPath tb j)) (λ (x y : ℕ). AncestorOrSelf ps y x) (ownPath tb i) (rw (p .own-path .path-is) (path-rises ps t (p .own-path .above))) in
       ⊎-elim (λ (e : x ≡ deepestShared tb i j). rw e self) (λ h. h) (head-first (λ (x y : ℕ). AncestorOrSelf ps y x) FFFF rises both)
 
   -- and so is every common ancestor of the bottoms: if it were below the deepest shared one, it would lie on both paths
@@ -62,4 +59,4 @@ module _ (tb : Table) (t : Tree (tb .parents)) where
       on = deepest-on i j a b e
 
       shared : AncestorOrSelf ps deepest x → AncestorOrSelf ps x deepest
-      shared h = deepest-below i j (record { lower = p; upper = ancestor-trans ps t (on .0 .upper) h }) (record { lower = q; upper = ancestor-trans ps t (on .1 .upper) h })
+      shared h = deepest-below i j (record { own-path = on .0 .own-path; lower = p; upper = ancestor-trans ps t (on .0 .upper) h }) (record { own-path = on .1 .own-path; lower = q; upper = ancestor-trans ps t (on .1 .upper) h })

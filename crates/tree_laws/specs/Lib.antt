@@ -4,5 +4,7 @@ pub mod Ancestors
 pub mod Children
 pub mod Leaves
 pub mod Spans
+pub mod Paths
+pub mod Branches
 pub mod Sharing
 pub mod Deepest

@@ -3,20 +3,24 @@
 
 use std::process::ExitCode;
 use tests::browser::Browser;
-use tests::examples::BAKEHOUSE_BYTES;
+use tests::examples::{named, BAKEHOUSE_BYTES};
 use tests::made::tables::{table, table_of_size};
-use tests::page_checks::bakehouse::TURNS;
 use tests::page_checks::driving::{drive, print};
+use tests::page_checks::{bakehouse, bare_sheet};
 use tests::page_checks::{holds_turns, page_of, read_page, words_of_turns};
 use tests::picture_checks::size_to_draw;
-use tests::report::{same, Report};
+use tests::reference::table::table_lines;
+use tests::report::{same, Outcome, Report};
 use tests::run_checks::damaged_table;
 
 fn main() -> ExitCode {
     let mut report = Report::new("page");
     report.listed("the bakehouse turns", [()], |()| {
-        let words = words_of_turns(&page_of(BAKEHOUSE_BYTES)?)?;
-        same("turns", words, TURNS.map(|turn| turn.join(" ")).to_vec())
+        tells(BAKEHOUSE_BYTES, &bakehouse::TURNS)
+    });
+    report.listed("the turns of the bare sheet", [()], |()| {
+        let bytes = table_lines(&named("the bare sheet")?.table).concat();
+        tells(&bytes, &bare_sheet::TURNS)
     });
     report.made("legible tables", 300, |generator| {
         let table = table_of_size(size_to_draw(generator), generator);
@@ -33,6 +37,13 @@ fn main() -> ExitCode {
         None => println!("page: no browser is installed"),
     }
     report.finish()
+}
+
+/// That the page of a table says of each turn what is written down for it.
+fn tells(bytes: &[u8], turns: &[&[&str]]) -> Outcome {
+    let words = words_of_turns(&page_of(bytes)?)?;
+    let written = turns.iter().map(|turn| turn.join(" ")).collect();
+    same("turns", words, written)
 }
 
 fn in_browser(report: &mut Report, browser: &Browser) {

@@ -1,6 +1,6 @@
 //! Draws a table with its plan: `picture [--cut M] [--page] [FILE]`, the table from standard input
 //! where no file is named. The picture, or the page with the picture and the sweep turn by turn,
-//! goes to standard output. `--wrong NAME` draws the plan of one of document 01's wrong planners.
+//! goes to standard output. `--wrong NAME` draws the plan of one of the wrong planners.
 
 use std::env;
 use std::fs;

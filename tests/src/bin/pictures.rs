@@ -5,7 +5,7 @@ use std::env;
 use std::fs;
 use std::path::PathBuf;
 use std::process::ExitCode;
-use tests::examples::marked;
+use tests::examples::{marked, named, telling, Example};
 use tests::made::tables::{table, table_of_size, Size};
 use tests::made::Generator;
 use tests::picture::answer::{planned, planned_wrongly, product_answer, Answer};
@@ -30,10 +30,10 @@ fn main() -> ExitCode {
         same(text, elements(text)?[0].text.as_str(), held)
     });
     report.listed("stored pictures", STORED, |stored| as_stored(&stored));
-    report.listed("document 01's tables", marked(), |example| {
+    report.listed("tables worked by hand", examples(), |example| {
         check(&table_lines(&example.table).concat(), "", None)
     });
-    report.listed("every cut of document 01's tables", marked(), |example| {
+    report.listed("every cut of these tables", examples(), |example| {
         every_cut(&example.table)
     });
     report.listed("wrong planners", wrong_planners(), |planner| {
@@ -75,21 +75,26 @@ enum Shown {
     Wrong(Mistake),
 }
 
-/// A wrong planner, with the order and the passes that document 01 gives it on the table.
+/// The marked tables and those that tell wrong planners.
+fn examples() -> impl Iterator<Item = Example> {
+    marked().into_iter().chain(telling())
+}
+
+/// A wrong planner, with its order and its passes on the table, worked out by hand.
 struct Mistake {
     planner: &'static str,
     order: &'static [usize],
     passes: &'static [(&'static [usize], Option<usize>)],
 }
 
-/// The table "two leaves" of document 01, by the shallowest tops: it loses a pair.
+/// Two branches below layout 1, by the shallowest highest layouts: it loses a pair.
 const SHALLOWEST: Mistake = Mistake {
-    planner: "the shallowest tops first",
+    planner: "the shallowest first",
     order: &[0, 1, 2, 3],
-    passes: &[(&[0, 1], Some(0)), (&[2], None), (&[3], None)],
+    passes: &[(&[0, 1], Some(1)), (&[2], None), (&[3], None)],
 };
 
-/// Two jobs 0-0, by a loop that ends at count minus one: they run alone.
+/// Two jobs 0-1, by a loop that ends at count minus one: they run alone.
 const LAST_NOT_OFFERED: Mistake = Mistake {
     planner: "the last job never offered",
     order: &[0, 1],
@@ -100,9 +105,10 @@ const fn stored(file: &'static str, table: &'static str, shown: Shown) -> Stored
     Stored { file, table, shown }
 }
 
-const STORED: [Stored; 10] = [
+const STORED: [Stored; 11] = [
     stored("examples/bakehouse", "bakehouse", Shown::Product),
     stored("examples/bakehouse-cut-3", "bakehouse", Shown::Cut(3)),
+    stored("examples/bare-sheet", "bare-sheet", Shown::Product),
     stored("examples/exchanged", "exchanged", Shown::Product),
     stored("examples/first-partner", "first-partner", Shown::Product),
     stored("examples/no-jobs", "no-jobs", Shown::Product),
@@ -255,25 +261,21 @@ fn not_drawn(planner: &WrongPlanner) -> Outcome {
     let call = |table: &Table, partners: &mut [u16], layouts: &mut [u16], work: &mut [u16]| {
         planner.call(table, partners, layouts, work)
     };
-    let named = marked()
-        .into_iter()
-        .find(|example| example.name == planner.fails);
-    let table = named.ok_or("no such table")?.table;
+    let table = named(planner.fails)?.table;
     same(planner.name, planned(table, &call).is_err(), true)
 }
 
-/// Of the wrong planners, one pairs jobs that do not share and one refuses: neither can be drawn.
+/// Of the wrong planners, some pair jobs that do not share or that are solo, and one refuses: none of
+/// these can be drawn.
 fn rule_breakers() -> Outcome {
-    let bytes = |name: &str| {
-        let named = marked().into_iter().find(|example| example.name == name);
-        named.map(|example| table_lines(&example.table).concat())
-    };
     for (planner, table) in [
-        ("spans without depths", "no shared layout"),
+        ("spans without depths", "above the highest layout"),
+        ("pairs on layout 0", "layout 0 alone in common"),
+        ("marks ignored", "a solo job that could share"),
         ("refusing each table", "no jobs"),
         ("nobody", "no jobs"),
     ] {
-        let bytes = bytes(table).ok_or("no such table")?;
+        let bytes = table_lines(&named(table)?.table).concat();
         same(planner, planned_wrongly(&bytes, planner).is_err(), true)?;
     }
     Ok(())

@@ -1,18 +1,21 @@
-//! The second implementation against document 01's words, so that what the other programs compare
-//! with is itself checked; the checks of *Plan* against document 01's wrong planners; and the whole
-//! run by hand beside the second implementation.
+//! The second implementation against document 01's words and tables worked by hand, so that what the
+//! other programs compare with is itself checked; the checks of *Plan* against wrong planners; and
+//! the whole run by hand beside the second implementation.
 
+use std::fs;
+use std::path::PathBuf;
 use std::process::ExitCode;
+use tests::bare_sheet::Search;
 use tests::by_hand;
 use tests::examples::{
-    bakehouse, marked, Said, BAKEHOUSE_BYTES, BAKEHOUSE_ORDER, BAKEHOUSE_PLAN, BAKEHOUSE_VISITS,
-    READINGS,
+    bakehouse, marked, named, telling, Said, BAKEHOUSE_BYTES, BAKEHOUSE_LOOKUPS, BAKEHOUSE_ORDER,
+    BAKEHOUSE_PLAN, READINGS,
 };
 use tests::made::tables::{table, table_of_size, Size};
 use tests::made::Generator;
 use tests::plan_checks::{check_example, small_tables};
-use tests::reference::paths::paths;
-use tests::reference::plan::{plan, plan_of, running_order, Room, Totals};
+use tests::reference::paths::{depth_of_highest, highest, is_bare, own_paths, BARE_SHEET};
+use tests::reference::plan::{plan, plan_of, running_order, Plan, Room, Totals};
 use tests::reference::rivals::{keeps_rules, most_before_cuts, pairs_before_cuts, pairs_of};
 use tests::reference::run::run;
 use tests::reference::stretch::shared_stretch;
@@ -27,21 +30,25 @@ use tests::wrong_planners::{wrong_planners, WrongPlanner};
 
 fn main() -> ExitCode {
     let mut report = Report::new("reference");
+    let search = Search::default();
     report.listed("the bakehouse table", [()], |()| bakehouse_as_printed());
-    report.listed("document 01's tables", marked(), |example| {
+    let examples = marked().into_iter().chain(telling());
+    report.listed("tables worked by hand", examples, |example| {
         check_example(&reference_planner, &example)?;
         read_as_said(&table_lines(&example.table).concat(), &example.said)
     });
+    report.listed("example tables", EXAMPLE_FILES, planned_as_stored);
     report.listed("document 01's refusals", READINGS, |(bytes, refusal)| {
         same("refusal", read(bytes).err(), refusal)
     });
     report.listed("document 01's stretches", STRETCHES, stretch_as_said);
     report.listed("visits of every span", spans(), visits_within_bound);
     report.listed("most pairs of every small table", small_tables(), |table| {
-        best_at_every_cut(&table)
+        best_at_every_cut(&table, &searched_plan(&search, &table))
     });
     report.made("most pairs at every cut", 20_000, |generator| {
-        best_at_every_cut(&table_for_search(generator))
+        let table = table_for_search(generator);
+        best_at_every_cut(&table, &searched_plan(&search, &table))
     });
     report.made("unbroken spans", 2_000, |generator| {
         unbroken_spans(&table(generator).parents)
@@ -49,8 +56,12 @@ fn main() -> ExitCode {
     report.made("sharing by spans and depths", 3_000, |generator| {
         sharing_by_spans(&table_of_size(medium_size(generator), generator))
     });
+    report.listed("jobs 0-0 pass the test and do not share", [()], |()| {
+        sharing_by_spans(&named("two jobs")?.table)
+    });
     report.made("the sweep turn by turn", 3_000, |generator| {
-        sweep_by_turns(&table_of_size(medium_size(generator), generator))
+        let table = table_of_size(medium_size(generator), generator);
+        sweep_by_turns(&table, &searched_plan(&search, &table))
     });
     report.made("read after writing", 3_000, |generator| {
         let table = table(generator);
@@ -59,6 +70,8 @@ fn main() -> ExitCode {
     report.listed("wrong planners", wrong_planners(), |planner| {
         caught(&planner)
     });
+    report.none_on_layout_0(&search);
+    report.listed("the search for layout 0", [()], |()| search_finds());
     // The whole run that the benchmark measures against.
     run_checks::run(&mut report, &by_hand::run_into);
     report.finish()
@@ -83,7 +96,7 @@ fn reference_planner(
     Ok(plan.totals)
 }
 
-/// All that document 01 says of the bakehouse table.
+/// All that 2026-01 says of the bakehouse table.
 fn bakehouse_as_printed() -> Outcome {
     let table = bakehouse().table;
     same(
@@ -95,14 +108,34 @@ fn bakehouse_as_printed() -> Outcome {
     let order = running_order(&table);
     same("order", order.as_slice(), &BAKEHOUSE_ORDER)?;
     let leaves = slot_leaves(&table, &order);
-    // The lookups of jobs 4, 2 and 0, the first jobs of the passes in turn.
-    let lookups = [4, 2, 0].map(|job| lookup_visits(&table, &leaves, job));
-    same("visits", lookups, BAKEHOUSE_VISITS)
+    let lookups = BAKEHOUSE_LOOKUPS.map(|(job, _)| (job, lookup_visits(&leaves, job)));
+    same("lookups", lookups, BAKEHOUSE_LOOKUPS)
+}
+
+/// The tables in `examples`, with their plans beside them.
+const EXAMPLE_FILES: [&str; 8] = [
+    "bakehouse",
+    "bare-sheet",
+    "exchanged",
+    "first-partner",
+    "no-jobs",
+    "solo",
+    "two-branches",
+    "two-jobs",
+];
+
+fn planned_as_stored(name: &str) -> Outcome {
+    let folder = PathBuf::from(env!("CARGO_MANIFEST_DIR")).join("../examples");
+    let file = |ending: &str| {
+        let path = folder.join(name).with_extension(ending);
+        fs::read(path).map_err(|error| format!("{name}.{ending}: {error}"))
+    };
+    same(name, run(&file("table")?), file("plan")?)
 }
 
 fn read_as_said(bytes: &[u8], said: &Said) -> Outcome {
     let refusal = match *said {
-        Said::Pairs(_) => None,
+        Said::Planned(_) => None,
         Said::Refused(number, _, line) => Some(Refusal {
             number,
             place: line,
@@ -148,9 +181,15 @@ fn visits_within_bound((width, from, to): (usize, usize, usize)) -> Outcome {
     same("within the bound", within, true)
 }
 
-/// Our pairs keep the rules and are the most in front of every cut.
-fn best_at_every_cut(table: &Table) -> Outcome {
+/// The plan of this implementation, searched for a pair on layout 0.
+fn searched_plan(search: &Search, table: &Table) -> Plan {
     let plan = plan_of(table);
+    search.plan(table, &plan.partners, &plan.layouts);
+    plan
+}
+
+/// Our pairs keep the rules and are the most in front of every cut.
+fn best_at_every_cut(table: &Table, plan: &Plan) -> Outcome {
     let pairs = pairs_of(&plan.partners);
     keeps_rules(table, &pairs)?;
     same("pairs", pairs.len(), usize::from(plan.totals.pairs))?;
@@ -185,44 +224,50 @@ fn unbroken_spans(parents: &[u16]) -> Outcome {
     Ok(())
 }
 
-/// Theorem 6 of 000, as document 01 states it: for earlier i and later j.
+/// Theorem 6 of 000 for earlier i and later j: the test tells whether they share wherever i is not a
+/// job 0-0. Where it is, j is one too: they pass the test, and do not share.
 fn sharing_by_spans(table: &Table) -> Outcome {
     let tree = settled(&table.parents);
-    let paths = paths(table);
+    let paths = own_paths(table);
     let order = running_order(table);
     for (rank, &i) in order.iter().enumerate() {
         for &j in &order[rank + 1..] {
-            let shares = paths[i].shares_with(&paths[j]);
-            same("sharing", fits(table, &tree, i, j), shares)?;
+            let shares = paths[i].meets(&paths[j]);
+            let passes = fits(table, &tree, i, j);
+            let expected = if is_bare(table, i) {
+                (true, false)
+            } else {
+                (shares, shares)
+            };
+            same("test and sharing", (passes, shares), expected)?;
         }
     }
     Ok(())
 }
 
-/// Bottom j's first leaf lies in the span of top i, and depth of top j ≤ depth of top i ≤ depth of
-/// bottom j.
+/// Bottom j's first leaf lies in the span of the highest layout of i, and the depths of the highest
+/// layout of j, of that of i and of bottom j ascend. A job 0-0 is tested by layout 0.
 fn fits(table: &Table, tree: &Settled, i: usize, j: usize) -> bool {
-    let top_i = usize::from(table.tops[i]);
-    let top_j = usize::from(table.tops[j]);
+    let highest_i = usize::from(highest(table, i).unwrap_or(BARE_SHEET));
     let bottom_j = usize::from(table.bottoms[j]);
     let leaf = tree.firsts[bottom_j];
-    tree.firsts[top_i] <= leaf
-        && leaf <= tree.lasts[top_i]
-        && tree.depths[top_j] <= tree.depths[top_i]
-        && tree.depths[top_i] <= tree.depths[bottom_j]
+    let depth_i = usize::from(tree.depths[highest_i]);
+    tree.firsts[highest_i] <= leaf
+        && leaf <= tree.lasts[highest_i]
+        && depth_of_highest(table, j) <= depth_i
+        && depth_i <= usize::from(tree.depths[bottom_j])
 }
 
 /// The turns make the plan, each finds the first free later job that shares, and of the others it
 /// says that they would do exactly if they are free, later and share.
-fn sweep_by_turns(table: &Table) -> Outcome {
+fn sweep_by_turns(table: &Table, plan: &Plan) -> Outcome {
     let turns = turns(table);
-    let plan = plan_of(table);
-    same("plan", plan_of_turns(table, &turns), plan.clone())?;
+    same("plan", &plan_of_turns(table, &turns), plan)?;
     let in_front: Vec<usize> = turns.iter().map(|turn| turn.in_front).collect();
     let before_cuts = pairs_before_cuts(table, &pairs_of(&plan.partners));
     same("pairs in front", in_front.as_slice(), &before_cuts[1..])?;
-    let paths = paths(table);
-    let shares = |job: usize, other: usize| paths[job].shares_with(&paths[other]);
+    let paths = own_paths(table);
+    let shares = |job: usize, other: usize| paths[job].meets(&paths[other]);
     turns
         .iter()
         .try_for_each(|turn| judges(table, turn, &turns, &shares))
@@ -234,6 +279,9 @@ fn judges(
     turns: &[Turn],
     shares: &dyn Fn(usize, usize) -> bool,
 ) -> Outcome {
+    let asks_nobody = matches!(turn.event, Event::Solo | Event::Bare);
+    let expected = table.solo(turn.job) || is_bare(table, turn.job);
+    same("asks nobody", asks_nobody, expected)?;
     let Event::Lookup(lookup) = &turn.event else {
         return Ok(());
     };
@@ -252,15 +300,16 @@ fn takes(turn: &Turn, job: usize) -> bool {
     matches!(&turn.event, Event::Lookup(lookup) if lookup.found.is_some_and(|(other, _)| other == job))
 }
 
-/// That the checks find a wrong planner out, on the table that document 01 has for it.
+/// That the checks find a wrong planner out on its table, by the cell count alone where nothing else
+/// is wrong.
 fn caught(planner: &WrongPlanner) -> Outcome {
     let call = |table: &Table, partners: &mut [u16], layouts: &mut [u16], work: &mut [u16]| {
         planner.call(table, partners, layouts, work)
     };
-    let example = marked()
-        .into_iter()
-        .find(|example| example.name == planner.fails)
-        .ok_or_else(|| format!("no table named {}", planner.fails))?;
+    let example = named(planner.fails)?;
+    if planner.count_alone {
+        wrong_in_count(planner, &example.table)?;
+    }
     match check_example(&call, &example) {
         Err(_) => Ok(()),
         Ok(()) => Err(format!(
@@ -268,4 +317,46 @@ fn caught(planner: &WrongPlanner) -> Outcome {
             planner.name, planner.fails
         )),
     }
+}
+
+fn wrong_in_count(planner: &WrongPlanner, table: &Table) -> Outcome {
+    let right = plan_of(table);
+    let wrong = (planner.plan)(table).map_err(|refusal| format!("refused: {refusal:?}"))?;
+    let with_right_count = Plan {
+        totals: Totals {
+            visits: right.totals.visits,
+            ..wrong.totals
+        },
+        ..wrong.clone()
+    };
+    same(planner.name, with_right_count, right.clone())?;
+    same(
+        "a wrong count",
+        wrong.totals.visits != right.totals.visits,
+        true,
+    )
+}
+
+/// The search finds a pair on layout 0 where there is one, in a plan's cells and in its lines.
+fn search_finds() -> Outcome {
+    let planner = wrong_planners()
+        .into_iter()
+        .find(|planner| planner.name == "pairs on layout 0")
+        .ok_or("no such planner")?;
+    let table = named(planner.fails)?.table;
+    let wrong = (planner.plan)(&table).map_err(|refusal| format!("refused: {refusal:?}"))?;
+    let (in_cells, in_lines) = (Search::default(), Search::default());
+    in_cells.plan(&table, &wrong.partners, &wrong.layouts);
+    let input = table_lines(&table).concat();
+    in_lines.lines(&input, b"11000000010000\n1F0001000000000001\n");
+    for search in [in_cells, in_lines] {
+        let seen = search.seen();
+        same("found", seen.found.is_some(), true)?;
+        same(
+            "pairs and tops 0",
+            (seen.pairs, seen.tops_0, seen.bare_jobs),
+            (1, 2, 0),
+        )?;
+    }
+    Ok(())
 }

@@ -82,7 +82,24 @@ pub fn table_of_size(size: Size, generator: &mut Generator) -> Table {
     for mark in &mut table.marks {
         *mark = u8::from(generator.one_in(solo_in));
     }
+    raise_tops(&mut table, generator);
     table
+}
+
+/// Gives some of the jobs top 0, and some top and bottom 0: in a large tree few are made so by
+/// themselves.
+fn raise_tops(table: &mut Table, generator: &mut Generator) {
+    let top_0_in = generator.choice(&[2, 4, 16, usize::MAX, usize::MAX]);
+    let bare_in = generator.choice(&[2, 8, 32, usize::MAX, usize::MAX]);
+    for job in 0..table.jobs() {
+        let bare = generator.one_in(bare_in);
+        if bare {
+            table.bottoms[job] = 0;
+        }
+        if bare || generator.one_in(top_0_in) {
+            table.tops[job] = 0;
+        }
+    }
 }
 
 /// A table without solo jobs.

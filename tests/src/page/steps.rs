@@ -6,6 +6,9 @@ use crate::picture::markup::{element, Element};
 use crate::picture::planned::{Pass, Planned};
 use crate::reference::sweep::{Event, Lookup, Turn, Verdict};
 
+/// Why a job 0-0 makes no lookup.
+const BARE: &str = "none: accepts layout 0 alone, on which no pair prints";
+
 /// The list of all turns.
 pub fn list(planned: &Planned, turns: &[Turn]) -> Element {
     let step = |turn: &Turn| step(planned, turn, turns.len());
@@ -20,7 +23,14 @@ fn step(planned: &Planned, turn: &Turn, count: usize) -> Element {
     let table = &planned.table;
     let (top, bottom) = (table.tops[turn.job], table.bottoms[turn.job]);
     let heading = format!("Turn {} of {count}: job {}", turn.place + 1, turn.job);
-    let path = format!("Place {}; top {top}, bottom {bottom}.", turn.place);
+    let highest = match turn.highest {
+        Some(layout) => format!("highest layout {layout}"),
+        None => "no highest layout".to_string(),
+    };
+    let path = format!(
+        "Place {}; top {top}, bottom {bottom}, {highest}.",
+        turn.place
+    );
     let entry = element("li")
         .class("step")
         .with("data-job", turn.job)
@@ -29,7 +39,7 @@ fn step(planned: &Planned, turn: &Turn, count: usize) -> Element {
     let facts = facts(planned, turn)
         .into_iter()
         .flat_map(|(name, words)| [element("dt").text(name), element("dd").text(words)]);
-    let entry = marked(entry, turn, top)
+    let entry = marked(entry, turn)
         .holding(element("h3").text(heading))
         .holding(element("p").text(path))
         .holding(element("dl").holding_all(facts));
@@ -40,11 +50,11 @@ fn step(planned: &Planned, turn: &Turn, count: usize) -> Element {
 }
 
 /// With a lookup: the layout over all that it asks for, and whom it finds.
-fn marked(entry: Element, turn: &Turn, top: u16) -> Element {
-    let Event::Lookup(lookup) = &turn.event else {
+fn marked(entry: Element, turn: &Turn) -> Element {
+    let (Event::Lookup(lookup), Some(asked)) = (&turn.event, turn.highest) else {
         return entry;
     };
-    let entry = entry.with("data-asked", top);
+    let entry = entry.with("data-asked", asked);
     match lookup.found {
         Some((other, _)) => entry.with("data-found", other),
         None => entry,
@@ -61,6 +71,7 @@ fn facts(planned: &Planned, turn: &Turn) -> Vec<(String, String)> {
     );
     let mut facts = match &turn.event {
         Event::Solo => vec![("Lookup", "none: solo, runs alone".to_string())],
+        Event::Bare => vec![("Lookup", BARE.to_string())],
         Event::TakenBy(job) => vec![("Lookup", format!("none: taken by job {job}"))],
         Event::Lookup(lookup) => lookup_facts(planned, lookup),
     };
@@ -125,6 +136,7 @@ fn others(lookup: &Lookup) -> Element {
 fn reason(verdict: Verdict) -> String {
     match verdict {
         Verdict::Solo => "solo".to_string(),
+        Verdict::Bare => "accepts layout 0 alone".to_string(),
         Verdict::TakenBy(job) => format!("taken by job {job}"),
         Verdict::HadItsTurn => "had its turn".to_string(),
         Verdict::NotReached(depth) => format!("not reached yet: its bottom is at depth {depth}"),

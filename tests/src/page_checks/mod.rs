@@ -1,6 +1,7 @@
 //! What a page must hold: each turn of the sweep once, in words, against the second implementation.
 
 pub mod bakehouse;
+pub mod bare_sheet;
 pub mod driving;
 
 use crate::page::{page, DOCTYPE};
@@ -69,10 +70,17 @@ fn tells(turn: &Turn, words: &str, jobs: usize) -> Outcome {
     same(words, words.starts_with(&heading), true)?;
     let event = match &turn.event {
         Event::Solo => "none: solo, runs alone".to_string(),
+        Event::Bare => "none: accepts layout 0 alone, on which no pair prints".to_string(),
         Event::TakenBy(job) => format!("none: taken by job {job} "),
         Event::Lookup(lookup) => format!("visits {} cell", lookup.visits),
     };
     same(words, words.contains(&event), true)?;
+    let highest = turn
+        .highest
+        .map_or("no highest layout.".to_string(), |layout| {
+            format!("highest layout {layout}.")
+        });
+    same(words, words.contains(&highest), true)?;
     let others = words
         .split_once("The other jobs")
         .map_or("", |(_, others)| others);

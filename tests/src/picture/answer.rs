@@ -37,8 +37,8 @@ pub fn planned(table: Table, planner: Planner) -> Result<Planned, String> {
     Ok(Planned::new(table, plan, order))
 }
 
-/// A table with the plan of one of document 01's wrong planners, in the order that it goes by. A
-/// plan that breaks the rules of a plan cannot be drawn.
+/// A table with the plan of one of the wrong planners, in the order that it goes by. A plan that
+/// breaks the rules of a plan cannot be drawn.
 pub fn planned_wrongly(bytes: &[u8], name: &str) -> Result<Planned, String> {
     let refused = |refusal: Refusal| format!("refused: {refusal:?}");
     let wrong = wrong_planners()

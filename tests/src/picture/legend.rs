@@ -5,6 +5,7 @@ use super::chips::{badge, sample, CHIP_HEIGHT};
 use super::markup::Element;
 use super::planned::{Planned, Role};
 use super::shapes::{circle, group, line, rectangle, text, Area, Panel, Point};
+use super::tree::BARE_SHEET;
 
 const LINE: i32 = 30;
 /// The width of an entry, and of its sample.
@@ -14,7 +15,14 @@ const SAMPLE: i32 = 36;
 /// An entry: how its sample is drawn, the left end of its middle line given, and its words.
 pub type Entry = (fn(Point) -> Element, &'static str);
 
-const LAYOUT: Entry = (layout_sample, "layout: its children stand below it");
+const LAYOUT_0: Entry = (
+    |at| box_sample(BARE_SHEET, at),
+    "layout 0: no pair prints on it",
+);
+const LAYOUT: Entry = (
+    |at| box_sample("box", at),
+    "layout: its children stand below it",
+);
 const LANE_ONE: Entry = (
     |at| chip(Role::LaneOne, at),
     "lane 1: the earlier job of a pair",
@@ -23,7 +31,7 @@ const LANE_TWO: Entry = (
     |at| chip(Role::LaneTwo, at),
     "lane 2: the later job of a pair",
 );
-const SINGLE: Entry = (|at| chip(Role::Single, at), "alone: no partner found");
+const SINGLE: Entry = (|at| chip(Role::Single, at), "alone: no partner");
 const SOLO: Entry = (
     |at| chip(Role::Solo, at),
     "solo job: alone as the table asks",
@@ -35,6 +43,9 @@ pub fn entries(planned: &Planned, with_tree: bool) -> Vec<Entry> {
     let holds = |role: Role| (0..planned.order.len()).any(|job| planned.role(job) == role);
     let mut entries = Vec::new();
     if with_tree {
+        entries.push(LAYOUT_0);
+    }
+    if with_tree && planned.table.layouts() > 1 {
         entries.push(LAYOUT);
     }
     let by_role = [
@@ -89,8 +100,8 @@ fn chip(role: Role, at: Point) -> Element {
     sample(role, sample_area(at))
 }
 
-fn layout_sample(at: Point) -> Element {
-    rectangle("box", sample_area(at)).with("rx", 3)
+fn box_sample(class: &str, at: Point) -> Element {
+    rectangle(class, sample_area(at)).with("rx", 3)
 }
 
 fn rung_sample(at: Point) -> Element {

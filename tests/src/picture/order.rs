@@ -16,8 +16,9 @@ const CHIP: i32 = 40;
 const PLACE: i32 = 42;
 const JOB: i32 = 66;
 const PATH: i32 = 128;
-const DEPTH: i32 = 248;
-const ARCS: i32 = 280;
+const HIGHEST: i32 = 256;
+const DEPTH: i32 = 320;
+const ARCS: i32 = 352;
 /// From arc to arc, and the room that arcs take at least.
 const ARC: i32 = 10;
 const LEAST_ARCS: i32 = 50;
@@ -117,6 +118,7 @@ impl Column<'_> {
             .holding(heading("right", PLACE, "place"))
             .holding(heading("middle", JOB + CHIP / 2, "job"))
             .holding(heading("", PATH, "top–bottom"))
+            .holding(heading("middle", HIGHEST, "highest"))
             .holding(heading("middle", DEPTH, "depth"))
             .holding(heading(
                 "",
@@ -126,8 +128,8 @@ impl Column<'_> {
             .holding(heading("", self.alone() - self.at.x, "alone"))
     }
 
-    /// Each place with its job, the ends of its path and the depth of its top, which the order goes
-    /// by.
+    /// Each place with its job, the ends of its path, its highest layout other than 0, and the depth
+    /// of that, which the order goes by.
     fn places(&self) -> Element {
         let rows = self.planned.order.iter().enumerate();
         group("places").holding_all(rows.map(|(place, &job)| self.place(place, job)))
@@ -136,6 +138,9 @@ impl Column<'_> {
     fn place(&self, place: usize, job: usize) -> Element {
         let (row, table) = (self.row(place), &self.planned.table);
         let path = format!("{}–{}", table.tops[job], table.bottoms[job]);
+        let highest = self.planned.highest(job);
+        let highest = highest.map_or("none".to_string(), |layout| layout.to_string());
+        let depth = self.planned.depth_of_highest(job).to_string();
         let said = |class: &str, right: i32, words: String| {
             text(
                 &format!("number {class}"),
@@ -151,15 +156,13 @@ impl Column<'_> {
         };
         group("place")
             .with("data-place", place)
+            .with("data-highest", &highest)
             .holding(rectangle("row", whole))
             .holding(said("right faint", PLACE, place.to_string()))
             .holding(job_shape(self.planned, job, self.chip(JOB, row), "placed"))
             .holding(said("", PATH, path))
-            .holding(said(
-                "middle",
-                DEPTH,
-                self.planned.depth_of_top(job).to_string(),
-            ))
+            .holding(said("middle", HIGHEST, highest))
+            .holding(said("middle", DEPTH, depth))
     }
 
     fn chip(&self, right: i32, row: i32) -> Area {

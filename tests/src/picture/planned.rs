@@ -1,6 +1,7 @@
 //! What a picture of an accepted table is drawn from: the table, a plan of it, the order that the
 //! plan was made in, and the tree's depths and leaves by the second implementation.
 
+use crate::reference::paths;
 use crate::reference::plan::Plan;
 use crate::reference::tree::{settled, Settled};
 use crate::reference::{Table, ABSENT};
@@ -97,8 +98,14 @@ impl Planned {
         usize::from(self.tree.depths[usize::from(layout)])
     }
 
-    pub fn depth_of_top(&self, job: usize) -> usize {
-        self.depth(self.table.tops[job])
+    /// The highest layout other than 0 on a job's path; a job 0-0 has none.
+    pub fn highest(&self, job: usize) -> Option<u16> {
+        paths::highest(&self.table, job)
+    }
+
+    /// The depth that the running order goes by.
+    pub fn depth_of_highest(&self, job: usize) -> usize {
+        paths::depth_of_highest(&self.table, job)
     }
 
     /// The first leaf of a job's bottom.

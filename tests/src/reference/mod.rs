@@ -1,7 +1,7 @@
-//! A second implementation of the planner, written from document 01's definitions and compared with
-//! the proved one. It is slow on purpose: nothing that it plans with uses a sweep, a segment tree,
-//! or Theorem 6. The module `sweep` tells the sweep's turns, and its plan is compared with the
-//! other.
+//! A second implementation of the planner, written from document 01's definitions, as document 02's
+//! requests have changed them (2026-01, the bare sheet), and compared with the proved one. It is slow
+//! on purpose: nothing that it plans with uses a sweep, a segment tree, or Theorem 6. The module
+//! `sweep` tells the sweep's turns, and its plan is compared with the other.
 
 pub mod paths;
 pub mod plan;

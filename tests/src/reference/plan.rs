@@ -2,8 +2,8 @@
 //! each operation turns away"): in running order each free job takes the first free later job that
 //! shares with it.
 
-use super::paths::{deepest_shared, paths, Path};
-use super::tree::{depth, is_ancestor, refuse_wrong_parents};
+use super::paths::{deepest_shared, depth_of_highest, is_bare, own_paths, Path};
+use super::tree::{is_ancestor, refuse_wrong_parents};
 use super::visits::{lookup_visits, slot_leaves};
 use super::{refuse, Refusal, Table, ABSENT, JOB_LIMIT, LAYOUT_LIMIT, WORK_CELLS};
 
@@ -69,32 +69,35 @@ fn refuse_wrong_job(table: &Table, job: usize) -> Result<(), Refusal> {
     Ok(())
 }
 
-/// The running order: the deeper top first, equal depths by smaller job number.
+/// The running order: the deeper highest layout first, equal depths by smaller job number. A bare
+/// job has depth 0.
 pub fn running_order(table: &Table) -> Vec<usize> {
-    let depths: Vec<usize> = table
-        .tops
-        .iter()
-        .map(|&top| depth(&table.parents, top))
-        .collect();
+    let jobs = 0..table.jobs();
+    let depths: Vec<usize> = jobs.map(|job| depth_of_highest(table, job)).collect();
     let mut order: Vec<usize> = (0..table.jobs()).collect();
     order.sort_by(|&a, &b| depths[b].cmp(&depths[a]).then(a.cmp(&b)));
     order
 }
 
+/// Whether a job makes no lookup and always runs alone: a solo job, and a bare one.
+pub fn asks_nobody(table: &Table, job: usize) -> bool {
+    table.solo(job) || is_bare(table, job)
+}
+
 /// The plan of a table that is not refused.
 pub fn plan_of(table: &Table) -> Plan {
     let order = running_order(table);
-    let matching = greedy_matching(table, &order, &paths(table));
+    let matching = greedy_matching(table, &order, &own_paths(table));
     let leaves = slot_leaves(table, &order);
     let visits = matching
         .lookups
         .iter()
-        .map(|&job| lookup_visits(table, &leaves, job))
+        .map(|&job| lookup_visits(&leaves, job))
         .sum();
     with_totals(table, matching.partners, visits)
 }
 
-/// Who is paired with whom, and which jobs were still free at their turn.
+/// Who is paired with whom, and which jobs made a lookup.
 struct Matching {
     partners: Vec<Option<usize>>,
     lookups: Vec<usize>,
@@ -104,7 +107,7 @@ fn greedy_matching(table: &Table, order: &[usize], paths: &[Path]) -> Matching {
     let mut partners = vec![None; table.jobs()];
     let mut lookups = Vec::new();
     for (rank, &job) in order.iter().enumerate() {
-        if table.solo(job) || partners[job].is_some() {
+        if asks_nobody(table, job) || partners[job].is_some() {
             continue;
         }
         lookups.push(job);
@@ -112,7 +115,7 @@ fn greedy_matching(table: &Table, order: &[usize], paths: &[Path]) -> Matching {
         let found = order[rank + 1..]
             .iter()
             .copied()
-            .find(|&other| free(other) && paths[job].shares_with(&paths[other]));
+            .find(|&other| free(other) && paths[job].meets(&paths[other]));
         if let Some(other) = found {
             partners[job] = Some(other);
             partners[other] = Some(job);
@@ -123,7 +126,7 @@ fn greedy_matching(table: &Table, order: &[usize], paths: &[Path]) -> Matching {
 
 /// A matching written as *Plan* writes it, each pair with its deepest shared layout, and its totals.
 pub fn with_totals(table: &Table, partners: Vec<Option<usize>>, visits: u32) -> Plan {
-    let paths = paths(table);
+    let paths = own_paths(table);
     let layout = |(job, partner): (usize, &Option<usize>)| match partner {
         Some(other) => deepest_shared(table, job, &paths[*other]).unwrap_or(ABSENT),
         None => ABSENT,

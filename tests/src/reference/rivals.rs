@@ -1,7 +1,7 @@
 //! Rival plans (document 01, "Rival plans and the cut"): their rules, and by exhaustive search how
 //! many pairs one can have in front of a cut.
 
-use super::paths::{paths, Path};
+use super::paths::{own_paths, Path};
 use super::plan::running_order;
 use super::Table;
 
@@ -25,7 +25,7 @@ pub fn pairs_of(partners: &[u16]) -> Vec<Pair> {
 
 /// The rules of a rival plan, or which one is broken.
 pub fn keeps_rules(table: &Table, pairs: &[Pair]) -> Result<(), String> {
-    let paths = paths(table);
+    let paths = own_paths(table);
     let mut paired = vec![false; table.jobs()];
     for &(job, other) in pairs {
         if job == other {
@@ -43,8 +43,9 @@ pub fn keeps_rules(table: &Table, pairs: &[Pair]) -> Result<(), String> {
     Ok(())
 }
 
+/// Neither is solo, and they share: a rival's pairs do not print on layout 0 either.
 fn may_pair(table: &Table, paths: &[Path], job: usize, other: usize) -> bool {
-    !table.solo(job) && !table.solo(other) && paths[job].shares_with(&paths[other])
+    !table.solo(job) && !table.solo(other) && paths[job].meets(&paths[other])
 }
 
 /// How many pairs lie in front of each cut, from cut 0 to cut M.
@@ -62,7 +63,7 @@ pub fn pairs_before_cuts(table: &Table, pairs: &[Pair]) -> Vec<usize> {
 /// The most pairs that any rival plan has in front of each cut, from cut 0 to cut M.
 pub fn most_before_cuts(table: &Table) -> Vec<usize> {
     let order = running_order(table);
-    let paths = paths(table);
+    let paths = own_paths(table);
     let may_pair = |job: usize, other: usize| may_pair(table, &paths, job, other);
     (0..=table.jobs())
         .map(|cut| most_pairs(&order[..cut], &may_pair))

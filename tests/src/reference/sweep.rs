@@ -2,7 +2,7 @@
 //! segment tree: whose turn it is, what the turn asks for, whom it finds, and why each of the other
 //! jobs does not do. The plan of this implementation is made without it and compared with it.
 
-use super::paths::{deepest_shared, paths};
+use super::paths::{deepest_shared, depth_of_highest, highest, is_bare, own_paths};
 use super::plan::{running_order, with_totals, Plan};
 use super::tree::{settled, Settled};
 use super::visits::{lookup_visits, slot_leaves};
@@ -13,7 +13,10 @@ use super::Table;
 pub struct Turn {
     pub place: usize,
     pub job: usize,
-    /// The depth of the job's top: the sweep has reached the bottoms that are as deep or deeper.
+    /// The job's highest layout; a bare job has none.
+    pub highest: Option<u16>,
+    /// The depth of that layout: the sweep has reached the bottoms that are as deep or deeper. It is
+    /// 0 for a bare job.
     pub depth: usize,
     /// The jobs whose bottoms are reached, by number.
     pub reached: Vec<usize>,
@@ -28,6 +31,8 @@ pub struct Turn {
 pub enum Event {
     /// A solo job runs alone.
     Solo,
+    /// A bare job runs alone: no pair prints on its one layout.
+    Bare,
     /// An earlier job has taken this one.
     TakenBy(usize),
     Lookup(Lookup),
@@ -35,7 +40,7 @@ pub enum Event {
 
 #[derive(Clone, Debug, PartialEq, Eq)]
 pub struct Lookup {
-    /// First and last leaf of the job's top, and the first and last slot there.
+    /// First and last leaf of the job's highest layout, and the first and last slot there.
     pub leaves: (usize, usize),
     pub slots: (usize, usize),
     pub visits: u32,
@@ -49,6 +54,7 @@ pub struct Lookup {
 #[derive(Clone, Copy, Debug, PartialEq, Eq)]
 pub enum Verdict {
     Solo,
+    Bare,
     TakenBy(usize),
     HadItsTurn,
     /// The depth of its bottom, which the sweep has not reached.
@@ -91,6 +97,9 @@ pub fn plan_of_turns(table: &Table, turns: &[Turn]) -> Plan {
     with_totals(table, partners, visits)
 }
 
+/// First and last leaf.
+type Span = (usize, usize);
+
 struct Sweep<'a> {
     table: &'a Table,
     tree: Settled,
@@ -111,7 +120,8 @@ impl Sweep<'_> {
         Turn {
             place,
             job,
-            depth: self.depth_of_top(job),
+            highest: highest(self.table, job),
+            depth: depth_of_highest(self.table, job),
             reached: self.reached(job),
             event,
             made: self.made,
@@ -123,10 +133,13 @@ impl Sweep<'_> {
         if self.table.solo(job) {
             return Event::Solo;
         }
+        let Some(asked) = highest(self.table, job) else {
+            return Event::Bare;
+        };
         if let Some(earlier) = self.taken_by[job] {
             return Event::TakenBy(earlier);
         }
-        let lookup = self.lookup(place, job);
+        let lookup = self.lookup(place, asked);
         if let Some((other, _)) = lookup.found {
             self.taken_by[other] = Some(job);
             self.partners[other] = Some(job);
@@ -135,22 +148,25 @@ impl Sweep<'_> {
         Event::Lookup(lookup)
     }
 
-    fn lookup(&self, place: usize, job: usize) -> Lookup {
-        let suits = |other: &usize| self.hindrance(place, *other).is_none();
+    /// The lookup of the job at a place, which asks for the span of its highest layout.
+    fn lookup(&self, place: usize, asked: u16) -> Lookup {
+        let job = self.order[place];
+        let leaves = self.span(asked);
+        let suits = |other: &usize| self.hindrance(place, leaves, *other).is_none();
         let found = self.order[place + 1..].iter().copied().find(suits);
         let others = (0..self.table.jobs()).filter(|&other| other != job);
-        let verdict = |other| (other, self.verdict(place, other, found));
+        let verdict = |other| (other, self.verdict(place, leaves, other, found));
         Lookup {
-            leaves: self.span(job),
-            slots: self.slots(job),
-            visits: lookup_visits(self.table, &slot_leaves(self.table, &self.order), job),
+            leaves,
+            slots: self.slots(leaves),
+            visits: lookup_visits(&slot_leaves(self.table, &self.order), job),
             found: found.and_then(|other| Some((other, self.printed(job, other)?))),
             others: others.map(verdict).collect(),
         }
     }
 
-    fn verdict(&self, place: usize, other: usize, found: Option<usize>) -> Verdict {
-        match self.hindrance(place, other) {
+    fn verdict(&self, place: usize, leaves: Span, other: usize, found: Option<usize>) -> Verdict {
+        match self.hindrance(place, leaves, other) {
             Some(hindrance) => hindrance,
             None if found == Some(other) => Verdict::Found,
             None => Verdict::Later(self.place(other)),
@@ -158,12 +174,13 @@ impl Sweep<'_> {
     }
 
     /// Why a job does not do at a turn.
-    fn hindrance(&self, place: usize, other: usize) -> Option<Verdict> {
-        let job = self.order[place];
-        let (first, last) = self.span(job);
+    fn hindrance(&self, place: usize, (first, last): Span, other: usize) -> Option<Verdict> {
         let (leaf, depth) = (self.leaf(other), self.depth_of_bottom(other));
         if self.table.solo(other) {
             return Some(Verdict::Solo);
+        }
+        if is_bare(self.table, other) {
+            return Some(Verdict::Bare);
         }
         if let Some(earlier) = self.taken_by[other] {
             return Some(Verdict::TakenBy(earlier));
@@ -171,18 +188,18 @@ impl Sweep<'_> {
         if self.place(other) <= place {
             return Some(Verdict::HadItsTurn);
         }
-        if depth < self.depth_of_top(job) {
+        if depth < depth_of_highest(self.table, self.order[place]) {
             return Some(Verdict::NotReached(depth));
         }
         (leaf < first || last < leaf).then_some(Verdict::Outside(leaf))
     }
 
     fn printed(&self, job: usize, other: usize) -> Option<u16> {
-        deepest_shared(self.table, job, &paths(self.table)[other])
+        deepest_shared(self.table, job, &own_paths(self.table)[other])
     }
 
     fn reached(&self, job: usize) -> Vec<usize> {
-        let depth = self.depth_of_top(job);
+        let depth = depth_of_highest(self.table, job);
         let is_reached = |other: &usize| depth <= self.depth_of_bottom(*other);
         (0..self.table.jobs()).filter(is_reached).collect()
     }
@@ -195,17 +212,15 @@ impl Sweep<'_> {
         front.iter().filter(paired).count() / 2
     }
 
-    /// First and last leaf of a job's top.
-    fn span(&self, job: usize) -> (usize, usize) {
-        let top = usize::from(self.table.tops[job]);
-        let leaf = |leaves: &[u16]| usize::from(leaves[top]);
+    /// First and last leaf of a layout.
+    fn span(&self, layout: u16) -> Span {
+        let leaf = |leaves: &[u16]| usize::from(leaves[usize::from(layout)]);
         (leaf(&self.tree.firsts), leaf(&self.tree.lasts))
     }
 
-    /// First and last slot whose leaf lies in the span, the job's own among them. Slots go by leaf,
-    /// so those before the span are as many as the jobs with smaller leaves.
-    fn slots(&self, job: usize) -> (usize, usize) {
-        let (first, last) = self.span(job);
+    /// First and last slot whose leaf lies in the span, the asking job's own among them. Slots go by
+    /// leaf, so those before the span are as many as the jobs with smaller leaves.
+    fn slots(&self, (first, last): Span) -> (usize, usize) {
         let jobs_where = |test: &dyn Fn(usize) -> bool| {
             let jobs = 0..self.table.jobs();
             jobs.filter(|&other| test(self.leaf(other))).count()
@@ -216,10 +231,6 @@ impl Sweep<'_> {
 
     fn leaf(&self, job: usize) -> usize {
         usize::from(self.tree.firsts[usize::from(self.table.bottoms[job])])
-    }
-
-    fn depth_of_top(&self, job: usize) -> usize {
-        usize::from(self.tree.depths[usize::from(self.table.tops[job])])
     }
 
     fn depth_of_bottom(&self, job: usize) -> usize {

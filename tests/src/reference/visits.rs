@@ -1,17 +1,22 @@
 //! The nodes of the segment tree that lookups visit, by the recursive definition (document 01, "The
 //! shelf and its cells": the segment tree and its nodes).
 
+use super::paths::highest;
 use super::tree::settled;
 use super::Table;
 
-/// For each slot its first leaf, and for each job the leaf span of its top.
+/// First and last leaf of a layout.
+pub type LeafSpan = (u16, u16);
+
+/// For each slot its first leaf, and for each job the leaf span of its highest layout; a bare job
+/// has none.
 pub struct SlotLeaves {
     slots: Vec<u16>,
-    spans: Vec<(u16, u16)>,
+    spans: Vec<Option<LeafSpan>>,
 }
 
-/// Slots: every job, solo ones too, sorted by first leaf of bottom, then by rank, the place in the
-/// running order.
+/// Slots: every job, solo and bare ones too, sorted by first leaf of bottom, then by rank, the place
+/// in the running order.
 pub fn slot_leaves(table: &Table, order: &[usize]) -> SlotLeaves {
     let tree = settled(&table.parents);
     let leaf = |job: usize| tree.firsts[usize::from(table.bottoms[job])];
@@ -21,24 +26,32 @@ pub fn slot_leaves(table: &Table, order: &[usize]) -> SlotLeaves {
         .map(|(rank, &job)| (leaf(job), rank))
         .collect();
     slots.sort();
-    let span = |&top: &u16| (tree.firsts[usize::from(top)], tree.lasts[usize::from(top)]);
+    let span = |layout: u16| {
+        let layout = usize::from(layout);
+        (tree.firsts[layout], tree.lasts[layout])
+    };
     SlotLeaves {
         slots: slots.into_iter().map(|(leaf, _)| leaf).collect(),
-        spans: table.tops.iter().map(span).collect(),
+        spans: (0..table.jobs())
+            .map(|job| highest(table, job).map(span))
+            .collect(),
     }
 }
 
-/// The nodes that one lookup visits: it asks for every slot whose first leaf lies in the leaf span
-/// of the job's top.
-pub fn lookup_visits(table: &Table, leaves: &SlotLeaves, job: usize) -> u32 {
-    let width = table.jobs().max(1).next_power_of_two();
-    let (first, last) = leaves.spans[job];
+/// The nodes that a job's lookup visits: it asks for the leaf span of the job's highest layout. A
+/// bare job makes no lookup.
+pub fn lookup_visits(leaves: &SlotLeaves, job: usize) -> u32 {
+    leaves.spans[job].map_or(0, |span| span_visits(leaves, span))
+}
+
+/// The nodes that one lookup visits: it asks for every slot whose first leaf lies in a leaf span.
+pub fn span_visits(leaves: &SlotLeaves, (first, last): LeafSpan) -> u32 {
     let mut asked: Vec<bool> = leaves
         .slots
         .iter()
         .map(|&leaf| first <= leaf && leaf <= last)
         .collect();
-    asked.resize(width, false);
+    asked.resize(asked.len().max(1).next_power_of_two(), false);
     visits(&asked)
 }
 

@@ -1,35 +1,53 @@
 -- `passes::make_passes` meets its contract: the prepared schedule is sound, and the sweep leaves its plan.
 use mathlib.Core.Path.{refl}
-use Rattle.model.specs.Jobs.{tableOf}
+use Rattle.model.specs.Jobs.{Table, tableOf}
 use Rattle.passes.specs.Making.{sweepable, pairs-few, made}
 use native.Mathlib.Omega.{arith}
 use borrow.Author.Needs.{needs}
 use Rattle.passes.proofs.make_passes.Statement.{statement}
 use Rattle.passes.proofs.make_passes.Tie as tie
 
+-- the table that was lent
+abbrev table-lent : tie.Start → Table
+table-lent c = tableOf (c .args .parents .now) (c .args .tops .now) (c .args .bottoms .now) (c .args .marks .now)
+
 prepare-requires : tie.Need-prepare-requires
-prepare-requires c κs = let s = c .before .before .before .before .before .before in (s .pre .0, (s .pre .1 .0, omega (arith, s .pre .1 .1)))
+prepare-requires c κs = let p = c .before .before .before .before .before .before .before .before .pre in (p .0, (p .1 .0, omega (arith, p .1 .1)))
 
 sweep-requires : tie.Need-sweep-requires
-sweep-requires c κs = sweepable (tableOf (c .before .before .before .before .before .before .before .before .before .before .args .parents .now) (c .before .before .before .before .before .before .before .before .before .before .args .tops .now) (c .before .before .before .before .before .before .before .before .before .before .args .bottoms .now) (c .before .before .before .before .before .before .before .before .before .before .args .marks .now)) (c .before .before .before .before .before .before .before .before .before .before .pre .0) (c .before .before .before .before .before .before .before .before .before .before .args .work .now) _ (c .before .before .before .before .before .before .before .before .before .before .pre .1 .1) (c .before .before .before .prepare .ensures .1) (c .before .before .before .prepare .ensures .0)
+sweep-requires c κs =
+    let s = c .before .before .before .before .before .before .before .before .before .before .before .before .before .before .before .before in
+    let prepared = c .before .before .before .before .before .before .before .prepare .ensures in
+    sweepable (table-lent s) (s .pre .0) (s .args .work .now) _ (s .pre .1 .1) (prepared .1) (prepared .0)
 
 cast-pairs : tie.Need-cast-pairs
 cast-pairs c = search needs
 
-mul-t15 : tie.Need-mul-t15
-mul-t15 c = search needs
+mul-t19 : tie.Need-mul-t19
+mul-t19 c = search needs
 
-sub-t16 : tie.Need-sub-t16
-sub-t16 c = omega (arith, pairs-few (tableOf (c .before .before .before .before .before .before .before .before .before .before .before .before .before .before .args .parents .now) (c .before .before .before .before .before .before .before .before .before .before .before .before .before .before .args .tops .now) (c .before .before .before .before .before .before .before .before .before .before .before .before .before .before .args .bottoms .now) (c .before .before .before .before .before .before .before .before .before .before .before .before .before .before .args .marks .now)) (c .before .before .before .before .before .before .before .before .before .before .before .before .before .before .pre .0) _ _ _ _ (c .before .before .before .before .before .before .before .prepare .ensures .0) (c .before .before .before .sweep .ensures))
+sub-t20 : tie.Need-sub-t20
+sub-t20 c =
+    let s = c .before .before .before .before .before .before .before .before .before .before .before .before .before .before .before .before .before .before .before .before in
+    omega (arith, pairs-few (table-lent s) (s .pre .0) _ _ _ _ (c .before .before .before .before .before .before .before .before .before .before .before .prepare .ensures .0) (c .before .before .before .sweep .ensures))
 
-cast-t17 : tie.Need-cast-t17
-cast-t17 c = search needs
+cast-t21 : tie.Need-cast-t21
+cast-t21 c = search needs
 
 same-length : tie.Need-same-length
 same-length c = search needs
 
+same-length-2 : tie.Need-same-length-2
+same-length-2 c = search needs
+
+same-length-3 : tie.Need-same-length-3
+same-length-3 c = search needs
+
 returns : tie.Need-returns
-returns c = made (tableOf (c .before .before .before .before .before .before .before .before .before .before .before .before .before .before .args .parents .now) (c .before .before .before .before .before .before .before .before .before .before .before .before .before .before .args .tops .now) (c .before .before .before .before .before .before .before .before .before .before .before .before .before .before .args .bottoms .now) (c .before .before .before .before .before .before .before .before .before .before .before .before .before .before .args .marks .now)) (c .before .before .before .before .before .before .before .before .before .before .before .before .before .before .pre .0) _ _ _ _ (c .before .before .before .before .before .before .before .prepare .ensures .0) (c .before .before .before .sweep .ensures) _ _ _ _ refl refl (c .before .before .before .before .before .before .before .before .before .before .before .before .before .before .pre .1 .0) (c .before .before .before .before .before .before .before .before .before .before .before .before .before .before .pre .1 .1) (c .before .before .before .before .before .before .before .prepare .ensures .1) _ refl refl refl
+returns c =
+    let s = c .before .before .before .before .before .before .before .before .before .before .before .before .before .before .before .before .before .before .before .before in
+    let prepared = c .before .before .before .before .before .before .before .before .before .before .before .prepare .ensures in
+    made (table-lent s) (s .pre .0) _ _ _ _ (prepared .0) (c .before .before .before .sweep .ensures) _ _ _ _ refl refl (s .pre .1 .0) (s .pre .1 .1) (prepared .1) _ refl refl refl
 
 pub make-passes-spec : {M : Type 1} → statement M
 make-passes-spec =
@@ -38,8 +56,10 @@ make-passes-spec =
     prepare-requires
     sweep-requires
     cast-pairs
-    mul-t15
-    sub-t16
-    cast-t17
+    mul-t19
+    sub-t20
+    cast-t21
     same-length
+    same-length-2
+    same-length-3
     returns)

@@ -44,20 +44,20 @@ array-share-prefix-parents c = let h = held-of (c .before .before) in h .holds .
 slice-aggregate-print-table : tie.Need-slice-aggregate-print-table
 slice-aggregate-print-table c = let h = held-of (c .before .before .before) in sym (length-take-le _ (c .before .before .before .before .before .before .before .before .before .before .before .before .before .read-lines .last .1 .0) (h .holds .parents-hold))
 
-slice-reshare-prefix-print-table : tie.Need-slice-reshare-prefix-print-table
-slice-reshare-prefix-print-table c = let h = held-of (c .before .before .before .before) in h .holds .tops-hold
+slice-relend-prefix-print-table : tie.Need-slice-relend-prefix-print-table
+slice-relend-prefix-print-table c = let h = held-of (c .before .before .before .before) in h .holds .tops-hold
 
 slice-aggregate-print-table-2 : tie.Need-slice-aggregate-print-table-2
 slice-aggregate-print-table-2 c = let h = held-of (c .before .before .before .before .before) in sym (length-take-le _ (c .before .before .before .before .before .before .before .before .before .before .before .before .before .before .before .read-lines .last .1 .1 .0) (h .holds .tops-hold))
 
-slice-reshare-prefix-print-table-2 : tie.Need-slice-reshare-prefix-print-table-2
-slice-reshare-prefix-print-table-2 c = let h = held-of (c .before .before .before .before .before) in h .holds .bottoms-hold
+slice-reshare-prefix-print-table : tie.Need-slice-reshare-prefix-print-table
+slice-reshare-prefix-print-table c = let h = held-of (c .before .before .before .before .before) in h .holds .bottoms-hold
 
 slice-aggregate-print-table-3 : tie.Need-slice-aggregate-print-table-3
 slice-aggregate-print-table-3 c = let h = held-of (c .before .before .before .before .before .before) in sym (length-take-le _ (c .before .before .before .before .before .before .before .before .before .before .before .before .before .before .before .before .read-lines .last .1 .1 .1 .0) (h .holds .bottoms-hold))
 
-slice-reshare-prefix-print-table-3 : tie.Need-slice-reshare-prefix-print-table-3
-slice-reshare-prefix-print-table-3 c = let h = held-of (c .before .before .before .before .before .before) in h .holds .marks-hold
+slice-relend-prefix-print-table-2 : tie.Need-slice-relend-prefix-print-table-2
+slice-relend-prefix-print-table-2 c = let h = held-of (c .before .before .before .before .before .before) in h .holds .marks-hold
 
 slice-aggregate-print-table-4 : tie.Need-slice-aggregate-print-table-4
 slice-aggregate-print-table-4 c = let h = held-of (c .before .before .before .before .before .before .before) in sym (length-take-le _ (c .before .before .before .before .before .before .before .before .before .before .before .before .before .before .before .before .before .read-lines .last .1 .1 .1 .1 .0) (h .holds .marks-hold))
@@ -102,7 +102,7 @@ same-length-9 : tie.Need-same-length-9
 same-length-9 c = search needs
 
 returns-2 : tie.Need-returns-2
-returns-2 c = plan-printed-as _ _ _ _ _ _ _ _ _ _ _ _ refl (held-of (c .before .before .before .before .before .before .before .before .before .before .before .before .before .before)) (c .before .before .before .before .print-table .ensures)
+returns-2 c = plan-printed-as _ _ _ _ _ _ _ _ _ _ _ _ refl (held-of (c .before .before .before .before .before .before .before .before .before .before .before .before .before .before .before .before .before .before)) (c .before .before .before .before .before .before .before .before .print-table .ensures)
 
 pub run-in-spec : {M : Type 1} → statement M
 run-in-spec =
@@ -117,11 +117,11 @@ run-in-spec =
     cast-jobs
     array-share-prefix-parents
     slice-aggregate-print-table
-    slice-reshare-prefix-print-table
+    slice-relend-prefix-print-table
     slice-aggregate-print-table-2
-    slice-reshare-prefix-print-table-2
+    slice-reshare-prefix-print-table
     slice-aggregate-print-table-3
-    slice-reshare-prefix-print-table-3
+    slice-relend-prefix-print-table-2
     slice-aggregate-print-table-4
     print-table-requires
     same-length

@@ -1,7 +1,7 @@
 //! The tree with its jobs. A layout is a box over its leaves, and its children stand below it. A
 //! job is a bar in the column of its bottom's first leaf: there the boxes from the depth of its
 //! bottom up to that of its top are just its path. A pair is tied by a rung in the box of the
-//! layout that it prints on.
+//! layout that it prints on. The box of layout 0, on which no pair prints, is white and dashed.
 
 mod columns;
 mod rungs;
@@ -25,6 +25,9 @@ const HEAD: i32 = 24;
 /// The part of a row for one rung.
 const RUNG: i32 = 22;
 const FOOT: i32 = 10;
+
+/// The class of the box of layout 0.
+pub const BARE_SHEET: &str = "box bare-sheet";
 
 const HEADING_WORDS: &str = "layouts, and each job along its path";
 
@@ -97,9 +100,10 @@ fn layout_box(planned: &Planned, columns: &Columns, rows: &Rows, layout: usize) 
         height: foot - y,
     };
     let at = |right: i32, down: i32| Point { x, y }.shifted(right, down);
+    let class = if layout == 0 { BARE_SHEET } else { "box" };
     let drawn = group("layout")
         .with("data-layout", layout)
-        .holding(rectangle("box", area).with("rx", 3))
+        .holding(rectangle(class, area).with("rx", 3))
         .holding(text("number heading", at(6, 17), layout));
     match depth {
         0 => drawn,
@@ -117,8 +121,9 @@ fn bars(planned: &Planned, columns: &Columns, rows: &Rows) -> Element {
 
 /// From the row of the job's top to that of its bottom.
 fn bar(planned: &Planned, columns: &Columns, rows: &Rows, job: usize) -> Area {
-    let y = rows.tops[planned.depth_of_top(job)] + 4;
-    let foot = rows.feet[planned.depth(planned.table.bottoms[job])] - 5;
+    let (top, bottom) = (planned.table.tops[job], planned.table.bottoms[job]);
+    let y = rows.tops[planned.depth(top)] + 4;
+    let foot = rows.feet[planned.depth(bottom)] - 5;
     Area {
         x: columns.bars[job] - BAR / 2,
         y,

@@ -1,7 +1,7 @@
 -- Its mark is tested against 0, as in the definition.
 use borrow.Author.Needs.{needs}
-use Rattle.prepare.proofs.is_solo.Statement.{statement}
-use Rattle.prepare.proofs.is_solo.Tie as tie
+use Rattle.highest.proofs.asks_nobody.Statement.{statement}
+use Rattle.highest.proofs.asks_nobody.Tie as tie
 
 cast-at : tie.Need-cast-at
 cast-at c = search needs
@@ -12,5 +12,5 @@ shared-slice-read-result c = search needs
 returns : tie.Need-returns
 returns c = search needs
 
-pub is-solo-spec : {M : Type 1} → statement M
-is-solo-spec = tie.close (tie.spec cast-at shared-slice-read-result returns)
+pub asks-nobody-spec : {M : Type 1} → statement M
+asks-nobody-spec = tie.close (tie.spec cast-at shared-slice-read-result returns)

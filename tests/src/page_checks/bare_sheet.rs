@@ -1,0 +1,48 @@
+//! What the page must say at each turn of the table "the bare sheet", worked out by hand.
+
+pub const TURNS: [&[&str]; 4] = [
+    &[
+        "Turn 1 of 4: job 0",
+        "Place 0; top 0, bottom 1, highest layout 1.",
+        "Reached bottoms at depth 1 or deeper: jobs 0, 1, 2",
+        "Asks for leaf 0; slots 0 to 2",
+        "Lookup visits 5 cells",
+        "Finds job 2, at place 2: the first in the running order that does",
+        "Pass 1: jobs 0 and 2 on layout 1",
+        "Cut 1 0 pairs in front",
+        "The other jobs",
+        "job 1 outside the span: its bottom has leaf 1",
+        "job 2 found",
+        "job 3 accepts layout 0 alone",
+    ],
+    &[
+        "Turn 2 of 4: job 1",
+        "Place 1; top 0, bottom 2, highest layout 2.",
+        "Reached bottoms at depth 1 or deeper: jobs 0, 1, 2",
+        "Asks for leaf 1; slot 3",
+        "Lookup visits 5 cells",
+        "Finds nobody",
+        "Pass 2: job 1 alone",
+        "Cut 2 0 pairs in front",
+        "The other jobs",
+        "job 0 had its turn",
+        "job 2 taken by job 0",
+        "job 3 accepts layout 0 alone",
+    ],
+    &[
+        "Turn 3 of 4: job 2",
+        "Place 2; top 1, bottom 1, highest layout 1.",
+        "Reached bottoms at depth 1 or deeper: jobs 0, 1, 2",
+        "Lookup none: taken by job 0",
+        "Pass 1: jobs 0 and 2 on layout 1",
+        "Cut 3 1 pair in front",
+    ],
+    &[
+        "Turn 4 of 4: job 3",
+        "Place 3; top 0, bottom 0, no highest layout.",
+        "Reached bottoms at depth 0 or deeper: jobs 0, 1, 2, 3",
+        "Lookup none: accepts layout 0 alone, on which no pair prints",
+        "Pass 3: job 3 alone",
+        "Cut 4 1 pair in front",
+    ],
+];
