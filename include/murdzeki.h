@@ -10,7 +10,7 @@ extern "C" {
 #endif
 
 /* Bytes of output that murdzeki_plan needs. */
-#define MURDZEKI_OUTPUT 32768
+#define MURDZEKI_OUTPUT 40960
 
 /*
  * Reads the table in the first `input_length` bytes of `input`, plans its passes and writes the plan's lines to `output`; a table that

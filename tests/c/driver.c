@@ -1,10 +1,12 @@
-/* Calls the whole run as a press driver does: a plan, each refusal, too small an output, no input. Expected lines are document 01's or worked
-   out by hand. */
+/* Calls the whole run as a press driver does: a plan, the longest plan, each refusal, outputs about the length asked for, no input. Expected
+   lines are document 01's, as 2026-01 and 2026-02 changed them, or worked out by hand. */
 #include <stdio.h>
 #include <stdlib.h>
 #include <string.h>
 
 #include "murdzeki.h"
+
+_Static_assert(MURDZEKI_OUTPUT == 40960, "the output that 2026-02 asks for");
 
 struct example {
     const char *name;
@@ -15,12 +17,18 @@ struct example {
 static const struct example examples[] = {
     {"bakehouse",
      "01FFFF\n010000\n010000\n010001\n0200000003\n0200010003\n0200020002\n0200000002\n0200030003\n0300040005\n",
-     "11000400000003\n120001\n11000200030002\n1F0002000100000019\n"},
+     "110004000000030003\n120001\n110002000300020002\n1F0002000100000019\n"},
     {"no jobs", "01FFFF\n0300010000\n", "1F0000000000000000\n"},
-    {"solo", "01FFFF\n010000\n0200010001\n0400010001\n0200010001\n0300020003\n", "11000000020001\n120001\n1F0001000100000005\n"},
+    {"solo", "01FFFF\n010000\n0200010001\n0400010001\n0200010001\n0300020003\n", "110000000200010001\n120001\n1F0001000100000005\n"},
     {"the bare sheet",
      "01FFFF\n010000\n010000\n0200000001\n0200000002\n0200010001\n0200000000\n0300030004\n",
-     "11000000020001\n120001\n120003\n1F000100020000000A\n"},
+     "110000000200010001\n120001\n120003\n1F000100020000000A\n"},
+    {"two shared layouts",
+     "01FFFF\n010000\n010001\n0200000002\n0200000002\n0300030002\n",
+     "110000000100010002\n1F0001000000000001\n"},
+    {"a later job that reaches higher",
+     "01FFFF\n010000\n010001\n010002\n0200010003\n0200020003\n0300040002\n",
+     "110001000000020003\n1F0001000000000001\n"},
     {"two jobs with layout 0 alone", "01FFFF\n0200000000\n0200000000\n0300010002\n", "120000\n120001\n1F0000000200000000\n"},
     {"no input", "", "1E070001\n"},
     {"a line cut off", "01FFFF\n03000100", "1E010002\n"},
@@ -83,39 +91,78 @@ static void plans(const struct example *example, size_t output_length)
     free(output);
 }
 
-/* Layouts, each below the one before it or all below the first, and jobs 0-0. */
-static void grown(const char *name, size_t layouts, int chain, size_t jobs, const char *end, const char *plan)
+/* With each length of output about the one asked for. */
+static const size_t lengths[] = {0, 1, 32768, 40959, 40960, 40961, 41037};
+
+static size_t calls = 0;
+
+static void plans_in_each(const struct example *example)
 {
-    char *table = malloc(7 * layouts + 11 * jobs + strlen(end) + 1);
-    if (table == NULL) {
+    for (size_t i = 0; i < sizeof lengths / sizeof lengths[0]; i++) {
+        plans(example, lengths[i]);
+        calls++;
+    }
+}
+
+static char *text(size_t length)
+{
+    char *bytes = malloc(length + 1);
+    if (bytes == NULL) {
         exit(2);
     }
+    return bytes;
+}
+
+/* Layouts, each below the one before it or all below the first, and jobs that are all the same. */
+static char *table_of(size_t layouts, int chain, size_t jobs, const char *job, const char *end)
+{
+    char *table = text(7 * layouts + 11 * jobs + strlen(end));
     char *at = table + sprintf(table, "01FFFF\n");
     for (size_t i = 1; i < layouts; i++) {
         at += sprintf(at, "01%04X\n", chain ? (unsigned)i - 1 : 0);
     }
     for (size_t i = 0; i < jobs; i++) {
-        at += sprintf(at, "0200000000\n");
+        at += sprintf(at, "%s", job);
     }
     strcpy(at, end);
+    return table;
+}
+
+/* The same with jobs 0-0. */
+static void grown(const char *name, size_t layouts, int chain, size_t jobs, const char *end, const char *plan)
+{
+    char *table = table_of(layouts, chain, jobs, "0200000000\n", end);
     struct example example = {name, table, plan};
-    plans(&example, MURDZEKI_OUTPUT);
+    plans_in_each(&example);
     free(table);
+}
+
+/* 4,096 jobs that all accept layouts 2, 1 and 0: each takes the next one, and its lookup visits one cell. */
+static void longest_plan(void)
+{
+    char *table = table_of(3, 1, 4096, "0200000002\n", "0300031000\n");
+    char *plan = text(38931);
+    char *at = plan;
+    for (unsigned i = 0; i < 4096; i += 2) {
+        at += sprintf(at, "11%04X%04X00010002\n", i, i + 1);
+    }
+    strcpy(at, "1F0800000000000800\n");
+    struct example example = {"the longest plan", table, plan};
+    check(example.name, strlen(plan) == 38931);
+    plans_in_each(&example);
+    free(table);
+    free(plan);
 }
 
 int main(void)
 {
-    static const size_t lengths[] = {0, 1, MURDZEKI_OUTPUT - 1, MURDZEKI_OUTPUT, MURDZEKI_OUTPUT + 77};
-    size_t calls = 3;
     for (size_t i = 0; i < sizeof examples / sizeof examples[0]; i++) {
-        for (size_t j = 0; j < sizeof lengths / sizeof lengths[0]; j++) {
-            plans(&examples[i], lengths[j]);
-            calls++;
-        }
+        plans_in_each(&examples[i]);
     }
     grown("a layout too many", 1025, 0, 0, "", "1E030401\n");
     grown("a job too many", 1, 0, 4097, "", "1E031002\n");
     grown("the longest chain", 1024, 1, 1, "0304000001\n", "120000\n1F0000000100000000\n");
+    longest_plan();
     printf("driver: %zu calls\n%zu passed, %d failed\n", calls, calls - (size_t)failed, failed);
     return failed != 0;
 }

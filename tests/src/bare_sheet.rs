@@ -1,8 +1,9 @@
-//! The search for a plan that prints on layout 0, in every answer that is checked. None may be
-//! found. What was searched is counted, so that it shows whether jobs were there that a planner could
-//! have paired on layout 0.
+//! The search for a plan that prints on layout 0, or has it as the highest layout that two jobs share,
+//! in every answer that is checked. None may be found. What was searched is counted, so that it shows
+//! whether jobs were there that a planner could have paired on layout 0.
 
 use crate::reference::paths::BARE_SHEET;
+use crate::reference::plan::Results;
 use crate::reference::rivals::pairs_of;
 use crate::reference::Table;
 use std::cell::RefCell;
@@ -21,7 +22,7 @@ pub struct Seen {
     pub tops_0: u64,
     pub bare_jobs: u64,
     pub solo_jobs: u64,
-    /// The first plan that prints on layout 0, in words.
+    /// The first plan with layout 0 at either end of what a pair shares, in words.
     pub found: Option<String>,
 }
 
@@ -30,18 +31,20 @@ impl Search {
         self.seen.borrow().clone()
     }
 
-    /// Searches a plan as *Plan* gives it: partner and printed layout by job.
-    pub fn plan(&self, table: &Table, partners: &[u16], layouts: &[u16]) {
+    /// Searches a plan as *Plan* gives it: partner, upper and printed layout by job.
+    pub fn plan(&self, table: &Table, results: Results) {
         let mut seen = self.seen.borrow_mut();
         seen.plans += 1;
-        seen.pairs += pairs_of(partners).len() as u64;
+        seen.pairs += pairs_of(results.partners).len() as u64;
         for job in 0..table.jobs() {
             let (top, bottom) = (table.tops[job], table.bottoms[job]);
             seen.add_job(top == BARE_SHEET, bottom == BARE_SHEET, table.solo(job));
         }
-        if let Some(job) = layouts.iter().position(|&layout| layout == BARE_SHEET) {
-            let (layouts, jobs) = (table.layouts(), table.jobs());
-            seen.find(format!("job {job} of {jobs} on {layouts} layouts"));
+        for (name, cells) in [("upper", results.uppers), ("printed", results.printed)] {
+            if let Some(job) = cells.iter().position(|&layout| layout == BARE_SHEET) {
+                let (layouts, jobs) = (table.layouts(), table.jobs());
+                seen.find(format!("{name}: job {job} of {jobs} on {layouts} layouts"));
+            }
         }
     }
 
@@ -60,7 +63,7 @@ impl Search {
         }
         for line in lines_of(output).filter(|line| line.starts_with(b"11")) {
             seen.pairs += 1;
-            if line.ends_with(b"0000") {
+            if ends_of_line(line).any(|layout| layout == b"0000") {
                 seen.find(format!("the line {}", String::from_utf8_lossy(line)));
             }
         }
@@ -77,6 +80,11 @@ impl Seen {
     fn find(&mut self, words: String) {
         self.found.get_or_insert(words);
     }
+}
+
+/// The layouts of a pair's line, which stand behind its kind and its two jobs.
+fn ends_of_line(line: &[u8]) -> impl Iterator<Item = &[u8]> {
+    line.get(10..).unwrap_or_default().chunks(4)
 }
 
 fn lines_of(bytes: &[u8]) -> impl Iterator<Item = &[u8]> {

@@ -1,6 +1,7 @@
 //! Document 01's own tables ("Tables to try" and the bakehouse table of "The plan"), with what it says
-//! of each as changed by 2026-01, and the tables on which wrong planners fail. Pairs and visits are
-//! worked out by hand from the definitions.
+//! of each as changed by 2026-01 and 2026-02, the tables on which wrong planners fail, and shared
+//! stretches. Pairs, both ends of what they share, visits and stretches are worked out by hand from
+//! the definitions.
 
 use crate::reference::{Refusal, Table, ABSENT};
 
@@ -12,10 +13,13 @@ pub enum Said {
     Refused(u16, u16, u16),
 }
 
-/// The pairs, as earlier job, later job and layout, every other job being single; and the cell
-/// count.
+/// A pair as its line has it: the earlier job, the later one, and the highest and the deepest layout
+/// that they share.
+pub type Pair = (u16, u16, u16, u16);
+
+/// The pairs, every other job being single; and the cell count.
 pub struct Passes {
-    pub pairs: &'static [(u16, u16, u16)],
+    pub pairs: &'static [Pair],
     pub visits: u32,
 }
 
@@ -49,7 +53,7 @@ fn example(name: &'static str, parents: &[u16], jobs: &[Job], said: Said) -> Exa
     Example { name, table, said }
 }
 
-fn planned(pairs: &'static [(u16, u16, u16)], visits: u32) -> Said {
+fn planned(pairs: &'static [Pair], visits: u32) -> Said {
     Said::Planned(Passes { pairs, visits })
 }
 
@@ -82,14 +86,14 @@ pub fn marked() -> Vec<Example> {
             "two leaves",
             &[F, 0, 0],
             &[Plain(0, 1), Plain(0, 2), Plain(1, 1), Plain(2, 2)],
-            planned(&[(0, 2, 1), (1, 3, 2)], 6),
+            planned(&[(0, 2, 1, 1), (1, 3, 2, 2)], 6),
         ),
         // Jobs 0 and 2 ask for all slots.
         example(
             "a chain of two",
             &[F, 0],
             &[Plain(1, 1), Plain(1, 1), Plain(0, 1), Plain(0, 0)],
-            planned(&[(0, 1, 1)], 2),
+            planned(&[(0, 1, 1, 1)], 2),
         ),
         bakehouse(),
         example("a wrong parent", &[F, 1], &[], Said::Refused(4, 1, 2)),
@@ -113,7 +117,7 @@ pub fn bakehouse() -> Example {
             Plain(0, 2),
             Plain(3, 3),
         ],
-        planned(&[(4, 0, 3), (2, 3, 2)], 25),
+        planned(&[(4, 0, 3, 3), (2, 3, 2, 2)], 25),
     )
 }
 
@@ -126,14 +130,14 @@ pub fn telling() -> Vec<Example> {
             "two branches",
             &[F, 0, 1, 1],
             &[Plain(0, 2), Plain(0, 3), Plain(2, 2), Plain(3, 3)],
-            planned(&[(2, 0, 2), (3, 1, 3)], 6),
+            planned(&[(2, 0, 2, 2), (3, 1, 3, 3)], 6),
         ),
         // Order 2, 3, 0, 1, one leaf. Where job 2 takes job 1, jobs 3 and 0 do not share.
         example(
             "the first partner",
             &[F, 0, 1],
             &[Plain(0, 1), Plain(0, 2), Plain(2, 2), Plain(2, 2)],
-            planned(&[(2, 3, 2), (0, 1, 1)], 2),
+            planned(&[(2, 3, 2, 2), (0, 1, 1, 1)], 2),
         ),
         // Job 1 goes first and asks for both slots; the bottom of job 0 has the leaf, but not the
         // depth.
@@ -155,7 +159,7 @@ pub fn telling() -> Vec<Example> {
             "two jobs on layout 1",
             &[F, 0],
             &[Plain(0, 1), Plain(0, 1)],
-            planned(&[(0, 1, 1)], 1),
+            planned(&[(0, 1, 1, 1)], 1),
         ),
         // Job 0 asks for both slots.
         example(
@@ -164,12 +168,42 @@ pub fn telling() -> Vec<Example> {
             &[Plain(1, 1), Solo(1, 1)],
             planned(&[], 1),
         ),
-        // Layouts 1 and 2 are shared.
+        // Layouts 1 and 2 are shared, and layout 0 does not count.
         example(
             "two shared layouts",
             &[F, 0, 1],
             &[Plain(0, 2), Plain(0, 2)],
-            planned(&[(0, 1, 2)], 1),
+            planned(&[(0, 1, 1, 2)], 1),
+        ),
+        // Job 1 goes first. Job 0 reaches up to layout 1, but they share layouts 2 and 3 alone.
+        example(
+            "a later job that reaches higher",
+            &[F, 0, 1, 2],
+            &[Plain(1, 3), Plain(2, 3)],
+            planned(&[(1, 0, 2, 3)], 1),
+        ),
+        // The same with the jobs exchanged: the number of a job does not matter to its highest layout.
+        example(
+            "an earlier job with the smaller number",
+            &[F, 0, 1, 2],
+            &[Plain(2, 3), Plain(1, 3)],
+            planned(&[(0, 1, 2, 3)], 1),
+        ),
+        // Order 1, 0, 2, 3, 4, 5; jobs by slot 1, 0, 2, 3, 4, 5. What jobs 1 and 0 share, layouts 2 and
+        // 3, has layouts of job 0 above it and below it. Jobs 2 and 3 share 1, 2 and 5, jobs 4 and 5
+        // layout 6 alone. Jobs 1 and 2 ask for half of the eight slots, job 4 for a quarter.
+        example(
+            "both ends",
+            &[F, 0, 1, 2, 3, 2, 0],
+            &[
+                Plain(0, 4),
+                Plain(2, 3),
+                Plain(0, 5),
+                Plain(1, 5),
+                Plain(6, 6),
+                Plain(0, 6),
+            ],
+            planned(&[(1, 0, 2, 3), (2, 3, 1, 5), (4, 5, 6, 6)], 11),
         ),
         // Each job asks for one slot of two.
         example(
@@ -184,7 +218,7 @@ pub fn telling() -> Vec<Example> {
             "a top 0 beside tops 1",
             &[F, 0],
             &[Plain(0, 1), Plain(1, 1), Plain(1, 1)],
-            planned(&[(0, 1, 1)], 10),
+            planned(&[(0, 1, 1, 1)], 10),
         ),
         // Job 0 asks for three slots of four, and jobs 1 and 2 ask for none.
         example(
@@ -198,7 +232,7 @@ pub fn telling() -> Vec<Example> {
             "the bare sheet",
             &[F, 0, 0],
             &[Plain(0, 1), Plain(0, 2), Plain(1, 1), Plain(0, 0)],
-            planned(&[(0, 2, 1)], 10),
+            planned(&[(0, 2, 1, 1)], 10),
         ),
     ]
 }
@@ -224,9 +258,9 @@ pub const BAKEHOUSE_BYTES: &[u8] = b"01FFFF
 ";
 
 /// All that the program prints of it.
-pub const BAKEHOUSE_PLAN: &[u8] = b"11000400000003
+pub const BAKEHOUSE_PLAN: &[u8] = b"110004000000030003
 120001
-11000200030002
+110002000300020002
 1F0002000100000019
 ";
 
@@ -234,6 +268,97 @@ pub const BAKEHOUSE_PLAN: &[u8] = b"11000400000003
 /// visits.
 pub const BAKEHOUSE_ORDER: [usize; 5] = [4, 0, 1, 2, 3];
 pub const BAKEHOUSE_LOOKUPS: [(usize, u32); 3] = [(4, 7), (1, 7), (2, 11)];
+
+/// Bytes, and all that is printed for them: the bakehouse table, no bytes at all, the two marked tables
+/// that are refused, a solo job that has its place and its slot, and two jobs of which the highest and
+/// the deepest shared layout differ.
+pub const PRINTINGS: [(&[u8], &[u8]); 6] = [
+    (BAKEHOUSE_BYTES, BAKEHOUSE_PLAN),
+    (b"", b"1E070001\n"),
+    (b"01FFFF\n010001\n", b"1E040002\n"),
+    (b"01FFFF\n010000\n0200010000\n", b"1E060003\n"),
+    (
+        b"01FFFF\n010000\n0400010001\n0200010001\n0200010001\n0300020003\n",
+        b"120000\n110001000200010001\n1F0001000100000005\n",
+    ),
+    (
+        b"01FFFF\n010000\n010001\n0200000002\n0200000002\n0300030002\n",
+        b"110000000100010002\n1F0001000000000001\n",
+    ),
+];
+
+/// Which of two lists a stretch begins.
+#[derive(Clone, Copy, Debug, PartialEq, Eq)]
+pub enum Begins {
+    First,
+    Second,
+}
+
+use Begins::{First, Second};
+
+/// Two lists with their shared stretch: the list that it begins, the cell of that list at which it
+/// starts, and its numbers.
+pub struct Stretch {
+    pub first: &'static [u16],
+    pub second: &'static [u16],
+    pub begins: Begins,
+    pub from: usize,
+    pub numbers: &'static [u16],
+}
+
+const fn stretch(
+    (first, second): (&'static [u16], &'static [u16]),
+    begins: Begins,
+    from: usize,
+    numbers: &'static [u16],
+) -> Stretch {
+    Stretch {
+        first,
+        second,
+        begins,
+        from,
+        numbers,
+    }
+}
+
+pub const STRETCHES: [Stretch; 29] = [
+    // No numbers; nothing shared.
+    stretch((&[], &[]), First, 0, &[]),
+    stretch((&[], &[1, 2]), First, 0, &[]),
+    stretch((&[1, 2], &[]), First, 0, &[]),
+    stretch((&[1, 2], &[3, 4]), First, 0, &[]),
+    stretch((&[1], &[0, 2]), First, 0, &[]),
+    stretch((&[0, 1], &[]), First, 1, &[]),
+    stretch((&[0, 1], &[2]), First, 1, &[]),
+    // 0 alone.
+    stretch((&[0], &[0]), First, 1, &[]),
+    stretch((&[0], &[]), First, 1, &[]),
+    stretch((&[], &[0]), First, 0, &[]),
+    stretch((&[0], &[1, 0]), First, 1, &[]),
+    // A leading 0 in both, and in one of them.
+    stretch((&[0, 1, 2], &[0, 1, 3]), First, 1, &[1]),
+    stretch((&[0, 1, 2], &[0, 1, 2]), First, 1, &[1, 2]),
+    stretch((&[1, 2], &[0, 1, 2]), First, 0, &[1, 2]),
+    stretch((&[0, 1, 2], &[1, 2]), First, 1, &[1, 2]),
+    stretch((&[2, 3], &[0, 1, 2, 3, 4]), First, 0, &[2, 3]),
+    stretch((&[0, 1, 2, 3], &[2, 3, 4]), Second, 0, &[2, 3]),
+    // Two leading zeros: one is dropped, and the other is a number like the others.
+    stretch((&[0, 0], &[0, 0]), First, 1, &[0]),
+    stretch((&[0, 0, 1], &[0, 1]), Second, 1, &[1]),
+    stretch((&[0, 0, 1], &[2, 0, 1]), First, 1, &[0, 1]),
+    // Zeros inside stay.
+    stretch((&[1, 0, 2], &[0, 1, 0, 2]), First, 0, &[1, 0, 2]),
+    // The first begins it where either could; otherwise the second may.
+    stretch((&[1, 2], &[1, 2]), First, 0, &[1, 2]),
+    stretch((&[1, 2], &[2, 1]), First, 0, &[1]),
+    stretch((&[2, 3, 4], &[1, 2, 3]), First, 0, &[2, 3]),
+    stretch((&[1, 2, 3], &[2, 3, 4]), Second, 0, &[2, 3]),
+    stretch((&[7, 7], &[7, 7, 7]), First, 0, &[7, 7]),
+    // The first place alone counts.
+    stretch((&[1, 2, 3], &[1, 9, 1, 2, 3]), First, 0, &[1]),
+    stretch((&[3, 1], &[0, 3, 5, 3, 1]), First, 0, &[3]),
+    stretch((&[0, 3, 1], &[3, 5, 3, 1]), First, 1, &[3]),
+];
 
 /// A table's bytes with what *Read a table* must answer: document 01's words, and the readings of
 /// them, one by one.

@@ -3,6 +3,7 @@
 //! library, a whole run by hand to measure theirs against, and pictures and pages of tables.
 
 pub mod bare_sheet;
+pub mod both_ends;
 pub mod browser;
 pub mod by_hand;
 pub mod examples;

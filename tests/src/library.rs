@@ -51,12 +51,13 @@ extern "C" {
         marks_length: usize,
         partners: *mut u16,
         partners_length: usize,
+        uppers: *mut u16,
+        uppers_length: usize,
         printed: *mut u16,
         printed_length: usize,
         work: *mut u16,
         work_length: usize,
-        totals: *mut u64,
-    ) -> u32;
+    ) -> u64;
 
     fn murdzeki_plan(
         input: *const u8,
@@ -135,10 +136,10 @@ pub fn stretch(first: &[u16], second: &[u16], out: &mut [u16]) -> usize {
 pub fn plan(
     table: &Table,
     partners: &mut [u16],
+    uppers: &mut [u16],
     printed: &mut [u16],
     work: &mut [u16],
 ) -> Result<plan::Totals, Refusal> {
-    let mut totals = 0;
     let answer = unsafe {
         harness_plan(
             table.parents.as_ptr(),
@@ -151,17 +152,21 @@ pub fn plan(
             table.marks.len(),
             partners.as_mut_ptr(),
             partners.len(),
+            uppers.as_mut_ptr(),
+            uppers.len(),
             printed.as_mut_ptr(),
             printed.len(),
             work.as_mut_ptr(),
             work.len(),
-            &mut totals,
         )
     };
-    unpacked(answer).map(|()| plan::Totals {
-        pairs: (totals >> 48) as u16,
-        singles: (totals >> 32) as u16,
-        visits: totals as u32,
+    if answer >> 63 == 1 {
+        return Err(refusal(answer as u32));
+    }
+    Ok(plan::Totals {
+        pairs: (answer >> 48) as u16,
+        singles: (answer >> 32) as u16,
+        visits: answer as u32,
     })
 }
 
@@ -177,13 +182,18 @@ pub fn run(input: &[u8], output: &mut [u8]) -> usize {
     }
 }
 
-/// 0 for done, else number × 65536 + place.
+/// 0 for done, else a refusal.
 fn unpacked(answer: u32) -> Result<(), Refusal> {
     match answer {
         0 => Ok(()),
-        _ => Err(Refusal {
-            number: (answer >> 16) as u16,
-            place: answer as u16,
-        }),
+        packed => Err(refusal(packed)),
+    }
+}
+
+/// Number × 65536 + place.
+fn refusal(packed: u32) -> Refusal {
+    Refusal {
+        number: (packed >> 16) as u16,
+        place: packed as u16,
     }
 }

@@ -1,6 +1,6 @@
 //! What a picture must hold, counted in the picture itself against the second implementation: each
-//! layout, job, place and pass once, each bar over the boxes of its path and no other, the pairs in
-//! front of the cut, no pair on layout 0, or the line that a refusal names.
+//! layout, job, place and pass once, each bar over the boxes of its path and no other, both ends of what
+//! a pair shares, the pairs in front of the cut, no pair on layout 0, or the line that a refusal names.
 
 use crate::made::tables::Size;
 use crate::made::Generator;
@@ -19,12 +19,12 @@ pub struct Expected {
     pub table: Table,
     /// The jobs by place.
     pub order: Vec<usize>,
-    pub passes: Vec<(Jobs, Printed)>,
+    pub passes: Vec<(Jobs, Ends)>,
 }
 
-/// The jobs of a pass, and the layout that a pair prints on.
+/// The jobs of a pass, and of a pair the highest and the deepest layout that it shares.
 pub type Jobs = Vec<usize>;
-pub type Printed = Option<usize>;
+pub type Ends = Option<(usize, usize)>;
 
 /// That a picture is well formed and holds what it must of the product's answer. `legible` says
 /// whether the tree is drawn.
@@ -202,18 +202,36 @@ impl Drawing {
         same("jobs", jobs, (0..table.jobs()).map(Some).collect())?;
         let drawn: Vec<usize> = self.of_class("pass").collect();
         same("passes", drawn.len(), passes.len())?;
-        for (number, &(ref jobs, layout)) in (1..).zip(passes) {
+        for (number, &(ref jobs, ends)) in (1..).zip(passes) {
             let named = |at: &&usize| self.number(**at, "data-pass") == Some(number);
             let at = *drawn
                 .iter()
                 .find(named)
                 .ok_or(format!("no pass {number}"))?;
             same("jobs of a pass", &self.jobs_in(at), jobs)?;
-            same("layout of a pass", self.number(at, "data-layout"), layout)?;
-            same("a pass on layout 0", layout == Some(0), false)?;
+            self.tells_ends(at, ends)?;
             self.tells_lanes(table, at, jobs.len())?;
         }
         Ok(())
+    }
+
+    /// A pair says the layout that it prints on, and the barest that does where that is another.
+    fn tells_ends(&self, pass: usize, ends: Ends) -> Outcome {
+        let drawn = (
+            self.number(pass, "data-upper"),
+            self.number(pass, "data-layout"),
+        );
+        let Some((upper, printed)) = ends else {
+            return same("layouts of a single", drawn, (None, None));
+        };
+        same("layouts of a pair", drawn, (Some(upper), Some(printed)))?;
+        same("layout 0", upper == 0 || printed == 0, false)?;
+        let words = match upper == printed {
+            true => format!("layout {printed}"),
+            false => format!("layout {printed}, barest {upper}"),
+        };
+        let mut held = self.held_by(pass);
+        same(&words, held.any(|at| self.elements[at].text == words), true)
     }
 
     /// Each job of a pass is drawn as what it is.
@@ -297,10 +315,26 @@ impl Drawing {
     }
 
     fn ties_pairs(&self, expected: &Expected, boxes: &[Extent]) -> Outcome {
-        let pairs = expected.passes.iter().filter(|(jobs, _)| jobs.len() == 2);
-        same("ties", self.of_class("print").count(), pairs.count())?;
-        for at in self.of_class("print") {
-            let layout = self.number(at, "data-layout").ok_or("no layout")?;
+        let passes = (1..).zip(&expected.passes);
+        let ends: Vec<(usize, (usize, usize))> = passes
+            .filter_map(|(number, (_, ends))| Some((number, (*ends)?)))
+            .collect();
+        let printed = ends.iter().map(|&(number, (_, printed))| (number, printed));
+        self.ties("print", printed.collect(), boxes)?;
+        let barer = ends
+            .iter()
+            .filter(|(_, (upper, printed))| upper != printed)
+            .map(|&(number, (upper, _))| (number, upper));
+        self.ties("barest", barer.collect(), boxes)
+    }
+
+    /// The ties of a class are these, given as pass and layout, each in the box of its layout.
+    fn ties(&self, class: &str, expected: Vec<(usize, usize)>, boxes: &[Extent]) -> Outcome {
+        let number = |at: usize, name: &str| self.number(at, name).unwrap_or(usize::MAX);
+        let tie = |at| (number(at, "data-pass"), number(at, "data-layout"));
+        let drawn: Vec<(usize, usize)> = self.of_class(class).map(tie).collect();
+        same(class, &drawn, &expected)?;
+        for (at, (_, layout)) in self.of_class(class).zip(drawn) {
             let within = |dot: &usize| {
                 let coordinate = |name| self.number(*dot, name).map(|value| value as i32);
                 let (x, y) = (coordinate("cx"), coordinate("cy"));
@@ -369,13 +403,16 @@ fn spelled(line: &[u8]) -> String {
     content.iter().take(40).map(spelled).collect()
 }
 
-/// The passes of a plan's lines, as their jobs and their layout.
-fn passes_of_lines(lines: &[u8]) -> Vec<(Jobs, Printed)> {
+/// The passes of a plan's lines, as their jobs and both ends of what a pair shares.
+fn passes_of_lines(lines: &[u8]) -> Vec<(Jobs, Ends)> {
     let text = String::from_utf8_lossy(lines);
     let field = |line: &str, at: usize| usize::from_str_radix(&line[at..at + 4], 16).ok();
     text.lines()
         .filter_map(|line| match &line[..2] {
-            "11" => Some((vec![field(line, 2)?, field(line, 6)?], field(line, 10))),
+            "11" => {
+                let jobs = vec![field(line, 2)?, field(line, 6)?];
+                Some((jobs, Some((field(line, 10)?, field(line, 14)?))))
+            }
             "12" => Some((vec![field(line, 2)?], None)),
             _ => None,
         })

@@ -3,34 +3,42 @@
 //! parameter, so that the checks can be tried on wrong ones.
 
 use crate::bare_sheet::Search;
-use crate::examples::{marked, telling, Example, Passes, Said};
+use crate::both_ends;
+use crate::examples::{marked, telling, Example, Pair, Passes, Said};
 use crate::lent::Lent;
 use crate::made::tables::{any_parents, path, table, table_of_size, Reach, Size};
 use crate::made::Generator;
-use crate::reference::plan::{plan, Room, Totals};
+use crate::reference::plan::{plan, Plan, Results, Room, Totals};
 use crate::reference::rivals::{keeps_rules, most_before_cuts, pairs_before_cuts, pairs_of};
 use crate::reference::tree::ancestors;
 use crate::reference::{Refusal, Table, ABSENT, JOB_LIMIT, LAYOUT_LIMIT, WORK_CELLS};
-use crate::report::{AnswerCounts, Outcome, Report};
+use crate::report::{same, AnswerCounts, Outcome, Report};
 
-/// *Plan*: a table, the partner and layout results, the work cells.
+/// *Plan*: a table, the results for partners, upper and printed layouts, the work cells.
 pub type Planner<'a> =
-    &'a dyn Fn(&Table, &mut [u16], &mut [u16], &mut [u16]) -> Result<Totals, Refusal>;
+    &'a dyn Fn(&Table, &mut [u16], &mut [u16], &mut [u16], &mut [u16]) -> Result<Totals, Refusal>;
 
 /// Every group of checks.
 pub fn run(report: &mut Report, planner: Planner) {
     let search = Search::default();
-    let planner: Planner = &|table, partners, layouts, work| {
-        let answer = planner(table, partners, layouts, work);
+    let planner: Planner = &|table, partners, uppers, printed, work| {
+        let answer = planner(table, partners, uppers, printed, work);
         if answer.is_ok() {
-            search.plan(table, used(partners, table), used(layouts, table));
+            let results = Results {
+                partners: used(partners, table),
+                uppers: used(uppers, table),
+                printed: used(printed, table),
+            };
+            search.plan(table, results);
         }
         answer
     };
     let mut answers = AnswerCounts::default();
-    let examples = marked().into_iter().chain(telling());
-    report.listed("tables worked by hand", examples, |example| {
+    report.listed("tables worked by hand", examples(), |example| {
         check_example(planner, &example)
+    });
+    report.listed("short and long results", examples(), |example| {
+        check_lengths(planner, &example)
     });
     report.listed("every small table", small_tables(), |table| {
         check_at_every_cut(planner, &table, &mut Generator::new(0))
@@ -63,6 +71,10 @@ pub fn run(report: &mut Report, planner: Planner) {
     report.none_on_layout_0(&search);
 }
 
+fn examples() -> impl Iterator<Item = Example> {
+    marked().into_iter().chain(telling())
+}
+
 /// The result cells that belong to jobs.
 fn used<'a>(cells: &'a [u16], table: &Table) -> &'a [u16] {
     cells.get(..table.jobs()).unwrap_or_default()
@@ -77,9 +89,16 @@ fn call(
     generator: &mut Generator,
 ) -> Result<Result<Vec<u16>, Refusal>, String> {
     let mut partners = Lent::new(room.partners, generator);
-    let mut layouts = Lent::new(room.layouts, generator);
+    let mut uppers = Lent::new(room.uppers, generator);
+    let mut printed = Lent::new(room.printed, generator);
     let mut work = Lent::new(room.work, generator);
-    let answer = planner(table, partners.cells(), layouts.cells(), work.cells());
+    let answer = planner(
+        table,
+        partners.cells(),
+        uppers.cells(),
+        printed.cells(),
+        work.cells(),
+    );
     let expected = plan(table, room);
     let expected_answer = expected.as_ref().map(|plan| plan.totals);
     if answer.as_ref() != expected_answer.as_ref().map_err(|refusal| *refusal) {
@@ -88,13 +107,16 @@ fn call(
     match expected {
         Ok(plan) => {
             holds_over(&partners, "partners", &plan.partners)?;
-            holds_over(&layouts, "layouts", &plan.layouts)?;
+            holds_over(&uppers, "uppers", &plan.uppers)?;
+            holds_over(&printed, "printed", &plan.printed)?;
             holds_over(&work, "work", &[0; WORK_CELLS])?;
+            both_ends::check(table, plan.results())?;
             Ok(Ok(partners.cells().to_vec()))
         }
         Err(refusal) => {
             partners.untouched("partners")?;
-            layouts.untouched("layouts")?;
+            uppers.untouched("uppers")?;
+            printed.untouched("printed")?;
             work.untouched("work")?;
             Ok(Err(refusal))
         }
@@ -128,12 +150,19 @@ fn check_at_every_cut(planner: Planner, table: &Table, generator: &mut Generator
 pub fn check_example(planner: Planner, example: &Example) -> Outcome {
     let table = &example.table;
     let room = exact_room(table);
-    let (mut partners, mut layouts) = (vec![1; room.partners], vec![1; room.layouts]);
-    let answer = planner(table, &mut partners, &mut layouts, &mut [1; WORK_CELLS]);
+    let mut partners = vec![UNWRITTEN; room.partners];
+    let (mut uppers, mut printed) = (partners.clone(), partners.clone());
+    let mut work = [1; WORK_CELLS];
+    let answer = planner(table, &mut partners, &mut uppers, &mut printed, &mut work);
     let said = match (&example.said, answer) {
         (Said::Planned(passes), Ok(totals)) => {
-            totals == totals_of(table, passes)
-                && (partners, layouts) == cells_of(table, passes.pairs)
+            let plan = Plan {
+                partners,
+                uppers,
+                printed,
+                totals,
+            };
+            plan == plan_said(table, passes)
         }
         (Said::Refused(number, place, _), Err(refusal)) => {
             (refusal.number, refusal.place) == (*number, *place)
@@ -149,32 +178,67 @@ pub fn check_example(planner: Planner, example: &Example) -> Outcome {
     call(planner, table, room, &mut Generator::new(0)).map(|_| ())
 }
 
-fn totals_of(table: &Table, passes: &Passes) -> Totals {
+/// What result cells hold before the call: no number of a job or layout, and not FFFF.
+const UNWRITTEN: u16 = 0xA5A5;
+
+/// The plan that is said of a table.
+fn plan_said(table: &Table, passes: &Passes) -> Plan {
     let pairs = passes.pairs.len();
-    Totals {
-        pairs: pairs as u16,
-        singles: (table.jobs() - 2 * pairs) as u16,
-        visits: passes.visits,
+    let mut plan = Plan {
+        partners: vec![ABSENT; table.jobs()],
+        uppers: vec![ABSENT; table.jobs()],
+        printed: vec![ABSENT; table.jobs()],
+        totals: Totals {
+            pairs: pairs as u16,
+            singles: (table.jobs() - 2 * pairs) as u16,
+            visits: passes.visits,
+        },
+    };
+    for &pair in passes.pairs {
+        write_pair(&mut plan, pair);
+    }
+    plan
+}
+
+/// Both jobs find their partner and both ends of what they share.
+fn write_pair(plan: &mut Plan, (job, other, upper, printed): Pair) {
+    for (member, partner) in [(job, other), (other, job)] {
+        let member = usize::from(member);
+        plan.partners[member] = partner;
+        plan.uppers[member] = upper;
+        plan.printed[member] = printed;
     }
 }
 
-/// Partner and layout cells of some pairs.
-fn cells_of(table: &Table, pairs: &[(u16, u16, u16)]) -> (Vec<u16>, Vec<u16>) {
-    let mut partners = vec![ABSENT; table.jobs()];
-    let mut layouts = partners.clone();
-    for &(job, other, layout) in pairs {
-        for (member, partner) in [(job, other), (other, job)] {
-            partners[usize::from(member)] = partner;
-            layouts[usize::from(member)] = layout;
+/// Each of the results, and the work cells, alone a cell too short: refused with 8, whatever else is
+/// wrong with the table. Alone longer: the cells past the jobs are left, which `call` sees to.
+fn check_lengths(planner: Planner, example: &Example) -> Outcome {
+    let table = &example.table;
+    let lengths: [fn(&mut Room) -> &mut usize; 4] = [
+        |room| &mut room.partners,
+        |room| &mut room.uppers,
+        |room| &mut room.printed,
+        |room| &mut room.work,
+    ];
+    for length in lengths {
+        let (mut short, mut long) = (exact_room(table), exact_room(table));
+        *length(&mut long) += 3;
+        call(planner, table, long, &mut Generator::new(0))?.ok();
+        if let Some(less) = length(&mut short).checked_sub(1) {
+            *length(&mut short) = less;
+            let answer = call(planner, table, short, &mut Generator::new(0))?;
+            let refusal = answer.err().map(|refusal| (refusal.number, refusal.place));
+            same(example.name, refusal, Some((8, 0)))?;
         }
     }
-    (partners, layouts)
+    Ok(())
 }
 
 fn exact_room(table: &Table) -> Room {
     Room {
         partners: table.jobs(),
-        layouts: table.jobs(),
+        uppers: table.jobs(),
+        printed: table.jobs(),
         work: WORK_CELLS,
     }
 }
@@ -183,7 +247,8 @@ fn exact_room(table: &Table) -> Room {
 fn room(table: &Table, generator: &mut Generator) -> Room {
     Room {
         partners: near(table.jobs(), generator),
-        layouts: near(table.jobs(), generator),
+        uppers: near(table.jobs(), generator),
+        printed: near(table.jobs(), generator),
         work: near(WORK_CELLS, generator),
     }
 }

@@ -127,7 +127,8 @@ impl Report {
         }
     }
 
-    /// That no plan searched prints on layout 0, and that there were jobs to be wrongly paired on it.
+    /// That no plan searched has layout 0 at an end of what a pair shares, and that there were jobs to be
+    /// wrongly paired on it.
     pub fn none_on_layout_0(&mut self, search: &Search) {
         if self.only.is_some() {
             return;

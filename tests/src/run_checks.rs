@@ -3,15 +3,15 @@
 //! so that the checks can be tried by themselves.
 
 use crate::bare_sheet::Search;
-use crate::examples::{marked, telling, BAKEHOUSE_BYTES, BAKEHOUSE_PLAN, READINGS};
+use crate::examples::{marked, telling, PRINTINGS, READINGS};
 use crate::lent::Lent;
 use crate::made::damage::{damaged, damaged_often, nearly_right_lines, DAMAGES};
 use crate::made::tables::{table, table_of_size, Size};
 use crate::made::Generator;
 use crate::reference::run::run_into;
 use crate::reference::table::table_lines;
-use crate::reference::{JOB_LIMIT, LAYOUT_LIMIT, OUTPUT_BYTES};
-use crate::report::{Outcome, Report};
+use crate::reference::{Table, ABSENT, JOB_LIMIT, LAYOUT_LIMIT, OUTPUT_BYTES};
+use crate::report::{same, Outcome, Report};
 
 /// The whole run: input, output, and the length answered.
 pub type Runner<'a> = &'a dyn Fn(&[u8], &mut [u8]) -> usize;
@@ -24,14 +24,18 @@ pub fn run(report: &mut Report, runner: Runner) {
         search.lines(input, output.get(..length).unwrap_or_default());
         length
     };
-    report.listed("the bakehouse table", [BAKEHOUSE_BYTES], |bytes| {
-        let mut output = vec![1; OUTPUT_BYTES];
-        let length = runner(bytes, &mut output);
-        let zeros = vec![0; OUTPUT_BYTES - BAKEHOUSE_PLAN.len()];
-        match output == [BAKEHOUSE_PLAN, &zeros].concat() && length == BAKEHOUSE_PLAN.len() {
-            true => Ok(()),
-            false => Err("the plan is not the one that 2026-01 asks for".to_string()),
-        }
+    report.listed("tables as printed", PRINTINGS, |(bytes, printed)| {
+        writes(runner, bytes, OUTPUT_BYTES, printed)
+    });
+    report.listed("the longest plan", ROOMS, |room| {
+        let (table, plan) = longest_plan();
+        same("bytes of the longest plan", plan.len(), 38_931)?;
+        in_room(runner, &table, room, &plan)
+    });
+    report.listed("outputs of each length", ROOMS, |room| {
+        PRINTINGS
+            .iter()
+            .try_for_each(|(bytes, printed)| in_room(runner, bytes, room, printed))
     });
     let examples = marked().into_iter().chain(telling());
     report.listed("tables worked by hand", examples, |example| {
@@ -60,10 +64,59 @@ pub fn run(report: &mut Report, runner: Runner) {
     report.made("short outputs", 2_000, |generator| {
         let bytes = table_lines(&table(generator)).concat();
         let length = generator.between(0, OUTPUT_BYTES - 1);
-        let length = generator.choice(&[length, 0, 1, OUTPUT_BYTES - 1]);
+        let length = generator.choice(&[length, 0, 1, 32_768, OUTPUT_BYTES - 1]);
         check(runner, &bytes, length, generator)
     });
     report.none_on_layout_0(&search);
+}
+
+/// Lengths of output, and whether they are enough: document 01's 32,768 bytes no longer are.
+const ROOMS: [(usize, bool); 8] = [
+    (0, false),
+    (1, false),
+    (32_768, false),
+    (38_931, false),
+    (40_959, false),
+    (40_960, true),
+    (40_961, true),
+    (65_536, true),
+];
+
+/// Below the output asked for the length is 0 and nothing is written.
+fn in_room(runner: Runner, input: &[u8], (room, enough): (usize, bool), lines: &[u8]) -> Outcome {
+    if enough {
+        return writes(runner, input, room, lines);
+    }
+    let mut output = Lent::new(room, &mut Generator::new(0));
+    same("length", runner(input, output.cells()), 0)?;
+    output.untouched("output")
+}
+
+/// That a call writes these lines, and zeros over the rest of the output.
+fn writes(runner: Runner, input: &[u8], room: usize, lines: &[u8]) -> Outcome {
+    let mut output = Lent::new(room, &mut Generator::new(0));
+    same("length", runner(input, output.cells()), lines.len())?;
+    let mut expected = vec![0; room];
+    expected[..lines.len()].copy_from_slice(lines);
+    output.holds("output", &expected)
+}
+
+/// A table whose plan has the most bytes, 4,096 jobs all in pairs, and that plan. Each job accepts
+/// layouts 2, 1 and 0, so each takes the next one, and its lookup, for all slots, visits one cell.
+fn longest_plan() -> (Vec<u8>, Vec<u8>) {
+    let mut table = Table {
+        parents: vec![ABSENT, 0, 1],
+        ..Table::default()
+    };
+    let mut plan = String::new();
+    for job in 0..JOB_LIMIT {
+        table.add_job(0, 2, 0);
+        if job % 2 == 1 {
+            plan += &format!("11{:04X}{job:04X}00010002\n", job - 1);
+        }
+    }
+    plan += "1F0800000000000800\n";
+    (table_lines(&table).concat(), plan.into_bytes())
 }
 
 /// One call beside the reference.

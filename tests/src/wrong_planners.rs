@@ -1,15 +1,16 @@
 //! The planners that document 01 says must not get through ("Plans that look fine"), and those that
-//! mistake layout 0, a solo mark or the printed layout, each with the table that catches it. The
-//! checks of *Plan* are tried on them: a check that accepts one of these checks nothing.
+//! mistake layout 0, a solo mark or an end of what a pair shares, each with the table that catches it.
+//! The checks of *Plan* are tried on them: a check that accepts one of these checks nothing.
 
 use crate::reference::paths::{
-    depth_of_highest, highest, is_bare, own_paths, own_walk, walk_of, whole_paths, BARE_SHEET,
+    depth_of_highest, highest, is_bare, own_paths, walk_of, whole_paths, BARE_SHEET,
 };
 use crate::reference::plan::{plan_of, running_order, with_totals, Plan, Totals};
 use crate::reference::tree::{depth, settled};
 use crate::reference::visits::{slot_leaves, span_visits, LeafSpan};
 use crate::reference::{Refusal, Table, ABSENT, WORK_CELLS};
 use std::cmp::Reverse;
+use std::mem::swap;
 
 pub struct WrongPlanner {
     pub name: &'static str,
@@ -18,10 +19,17 @@ pub struct WrongPlanner {
     pub plan: fn(&Table) -> Result<Plan, Refusal>,
     /// The order that it goes by.
     pub order: fn(&Table) -> Vec<usize>,
-    /// Whether it writes its results.
-    pub writes: bool,
+    pub writes: Writes,
     /// Whether its results are right, so that the cell count alone gives it away.
     pub count_alone: bool,
+}
+
+/// Which of its results a planner writes.
+#[derive(Clone, Copy, PartialEq, Eq)]
+pub enum Writes {
+    All,
+    AllButUppers,
+    Nothing,
 }
 
 impl WrongPlanner {
@@ -30,13 +38,17 @@ impl WrongPlanner {
         &self,
         table: &Table,
         partners: &mut [u16],
-        layouts: &mut [u16],
+        uppers: &mut [u16],
+        printed: &mut [u16],
         work: &mut [u16],
     ) -> Result<Totals, Refusal> {
         let plan = (self.plan)(table)?;
-        if self.writes {
+        if self.writes != Writes::Nothing {
             partners[..table.jobs()].copy_from_slice(&plan.partners);
-            layouts[..table.jobs()].copy_from_slice(&plan.layouts);
+            printed[..table.jobs()].copy_from_slice(&plan.printed);
+        }
+        if self.writes == Writes::All {
+            uppers[..table.jobs()].copy_from_slice(&plan.uppers);
         }
         work[..WORK_CELLS].fill(0);
         Ok(plan.totals)
@@ -53,7 +65,7 @@ fn wrong(
         fails,
         plan,
         order: running_order,
-        writes: true,
+        writes: Writes::All,
         count_alone: false,
     }
 }
@@ -73,15 +85,11 @@ fn wrong_count(
 pub fn wrong_planners() -> Vec<WrongPlanner> {
     let mut planners = planners_of_document_01();
     planners.extend(planners_of_the_bare_sheet());
+    planners.extend(planners_of_both_ends());
     planners.push(wrong(
         "marks ignored",
         "a solo job that could share",
         marks_ignored,
-    ));
-    planners.push(wrong(
-        "the highest shared layout printed",
-        "two shared layouts",
-        highest_shared_printed,
     ));
     planners
 }
@@ -106,7 +114,7 @@ fn planners_of_document_01() -> Vec<WrongPlanner> {
         wrong("no lookup at all", two_jobs, no_lookup),
         wrong("refusing each table", "no jobs", refuse_all),
         WrongPlanner {
-            writes: false,
+            writes: Writes::Nothing,
             ..wrong("results never written", "one job", |table| {
                 Ok(plan_of(table))
             })
@@ -141,6 +149,39 @@ fn planners_of_the_bare_sheet() -> Vec<WrongPlanner> {
             "jobs 0-0 with slots",
             no_slots_of_bare_jobs,
         ),
+    ]
+}
+
+/// Those that pair rightly and mistake an end of what a pair shares.
+fn planners_of_both_ends() -> Vec<WrongPlanner> {
+    let two_layouts = "two shared layouts";
+    let reaches_higher = "a later job that reaches higher";
+    vec![
+        wrong(
+            "the highest shared layout printed",
+            two_layouts,
+            highest_shared_printed,
+        ),
+        wrong("the deepest for both ends", two_layouts, deepest_for_both),
+        wrong("the ends exchanged", two_layouts, ends_exchanged),
+        wrong("the upper end a top", two_layouts, upper_end_a_top),
+        wrong(
+            "the upper end of the later job",
+            reaches_higher,
+            upper_end_of_later,
+        ),
+        wrong("each job's own upper end", reaches_higher, own_upper_ends),
+        wrong(
+            "the upper end of the larger number",
+            "an earlier job with the smaller number",
+            upper_end_of_larger_number,
+        ),
+        WrongPlanner {
+            writes: Writes::AllButUppers,
+            ..wrong("the upper ends never written", two_layouts, |table| {
+                Ok(plan_of(table))
+            })
+        },
     ]
 }
 
@@ -259,15 +300,61 @@ fn marks_ignored(table: &Table) -> Result<Plan, Refusal> {
 
 fn highest_shared_printed(table: &Table) -> Result<Plan, Refusal> {
     let mut plan = plan_of(table);
-    let paths = own_paths(table);
-    for job in 0..table.jobs() {
-        if let Some(other) = paths.get(usize::from(plan.partners[job])) {
-            let mut downward = own_walk(table, job).into_iter().rev();
-            let printed = downward.find(|&layout| other.contains(layout));
-            plan.layouts[job] = printed.unwrap_or(ABSENT);
+    plan.printed = plan.uppers.clone();
+    Ok(plan)
+}
+
+fn deepest_for_both(table: &Table) -> Result<Plan, Refusal> {
+    let mut plan = plan_of(table);
+    plan.uppers = plan.printed.clone();
+    Ok(plan)
+}
+
+fn ends_exchanged(table: &Table) -> Result<Plan, Refusal> {
+    let mut plan = plan_of(table);
+    swap(&mut plan.uppers, &mut plan.printed);
+    Ok(plan)
+}
+
+/// The top of the earlier job, which may be layout 0.
+fn upper_end_a_top(table: &Table) -> Result<Plan, Refusal> {
+    Ok(with_uppers(table, &|earlier, _, _| table.tops[earlier]))
+}
+
+/// The highest layout of the later job, which may lie above all that they share.
+fn upper_end_of_later(table: &Table) -> Result<Plan, Refusal> {
+    let highest = |job: usize| highest(table, job).unwrap_or(ABSENT);
+    Ok(with_uppers(table, &|_, later, _| highest(later)))
+}
+
+/// The highest layout of the one for the one, and of the other for the other.
+fn own_upper_ends(table: &Table) -> Result<Plan, Refusal> {
+    let highest = |job: usize| highest(table, job).unwrap_or(ABSENT);
+    Ok(with_uppers(table, &|_, _, job| highest(job)))
+}
+
+/// The highest layout of the job with the larger number, whichever is the earlier.
+fn upper_end_of_larger_number(table: &Table) -> Result<Plan, Refusal> {
+    let highest = |job: usize| highest(table, job).unwrap_or(ABSENT);
+    Ok(with_uppers(table, &|earlier, later, _| {
+        highest(earlier.max(later))
+    }))
+}
+
+/// The right plan, but for the upper ends of its pairs: these go by the earlier job, the later one,
+/// and that of the two in whose cell they are written.
+fn with_uppers(table: &Table, upper: &dyn Fn(usize, usize, usize) -> u16) -> Plan {
+    let mut plan = plan_of(table);
+    let order = running_order(table);
+    for (rank, &earlier) in order.iter().enumerate() {
+        let later = usize::from(plan.partners[earlier]);
+        if order[rank + 1..].contains(&later) {
+            for job in [earlier, later] {
+                plan.uppers[job] = upper(earlier, later, job);
+            }
         }
     }
-    Ok(plan)
+    plan
 }
 
 /// Sharing by whole paths, so that jobs with layout 0 alone in common are paired on it.
@@ -278,9 +365,10 @@ fn pairs_on_layout_0(table: &Table) -> Result<Plan, Refusal> {
     let mut plan = greedy(table, &order, &shares, |candidates| candidates.first());
     for job in 0..table.jobs() {
         if let Some(other) = paths.get(usize::from(plan.partners[job])) {
-            let mut upward = walk_of(table, job).into_iter();
-            let printed = upward.find(|&layout| other.contains(layout));
-            plan.layouts[job] = printed.unwrap_or(ABSENT);
+            let shared = |layout: &u16| other.contains(*layout);
+            let layouts: Vec<u16> = walk_of(table, job).into_iter().filter(shared).collect();
+            plan.printed[job] = layouts.first().copied().unwrap_or(ABSENT);
+            plan.uppers[job] = layouts.last().copied().unwrap_or(ABSENT);
         }
     }
     Ok(plan)

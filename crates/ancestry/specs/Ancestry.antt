@@ -1,7 +1,7 @@
 -- The lowest common ancestor of two layouts, and that a pair prints on it (document 01, "A pair prints on its
 -- deepest shared layout").
 use Prim.Native.Nat.{ℕ, _<_}
-use mathlib.Core.Path.{_≡_, sym, _∙_}
+use mathlib.Core.Path.{_≡_}
 use mathlib.Core.Bool.{true}
 use mathlib.Core.List.{List}
 use native.Mathlib.Nat.{le-antisymm}
@@ -9,7 +9,6 @@ use lib.ListN.{length}
 use Rattle.model.specs.Jobs.{Table, jobs, bottom, shares, deepestShared}
 use Rattle.tree_laws.specs.WellFormed.{Tree}
 use Rattle.tree_laws.specs.Ancestors.{AncestorOrSelf, ancestor-le}
-use Rattle.tree_laws.specs.Sharing.{shares-symmetric}
 use Rattle.tree_laws.specs.Deepest as deepest
 use Rattle.jobs.specs.Accepted.{Accepted}
 
@@ -30,14 +29,3 @@ module _ (tb : Table) (a : Accepted tb) (i j : ℕ) (hi : i < jobs tb) (hj : j <
       le-antisymm
       (ancestor-le ps t (deepest.deepest-common tb t i j (a .downward i hi) (a .downward j hj) s (d .ancestor-first) (d .ancestor-second)))
       (ancestor-le ps t (d .lowest (deepestShared tb i j) (on .0 .lower) (on .1 .lower)))
-
-  -- and it is the same the other way round: what lies on both paths lies on both
-  pub shared-symmetric : deepestShared tb i j ≡ deepestShared tb j i
-  shared-symmetric =
-      let ps : List ℕ = tb .parents in
-      let t : Tree ps = a .tree in
-      let there = deepest.deepest-on tb t i j (a .downward i hi) (a .downward j hj) s in
-      let back = deepest.deepest-on tb t j i (a .downward j hj) (a .downward i hi) (sym (shares-symmetric tb i j) ∙ s) in
-      le-antisymm
-      (ancestor-le ps t (deepest.deepest-below tb t j i (there .1) (there .0)))
-      (ancestor-le ps t (deepest.deepest-below tb t i j (back .1) (back .0)))

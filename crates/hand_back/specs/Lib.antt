@@ -1,2 +1,2 @@
--- What handing back promises: the partners and printed layouts of all jobs.
+-- What handing back promises: the partners, upper and printed layouts of all jobs.
 pub mod HandBack

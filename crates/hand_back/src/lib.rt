@@ -1,4 +1,5 @@
-// Hands a plan back by job number: at its own number each job finds its partner and the layout printed, FFFF for none.
+// Hands a plan back by job number: at its own number each job finds its partner and the highest and the deepest layout that they share, FFFF for none.
+use highest::highest_at;
 use model::JobNumber;
 use model::LayoutNumber;
 use passes::Pass;
@@ -9,7 +10,7 @@ ghost use lib.ListN.{length, set};
 ghost use Rattle.model.specs.Tree.{FFFF};
 ghost use Rattle.model.specs.Jobs.{Table};
 ghost use Rattle.passes.specs.PlanPass.{Plan};
-ghost use Rattle.hand_back.specs.HandBack.{partnersWith, printedWith, Inside, Returned};
+ghost use Rattle.hand_back.specs.HandBack.{partnersWith, uppersWith, printedWith, Inside, Returned};
 
 // Each of two jobs finds the other.
 fn set_partners(partners: &mut [u16], one: JobNumber, other: JobNumber)
@@ -23,16 +24,16 @@ fn set_partners(partners: &mut [u16], one: JobNumber, other: JobNumber)
     partners[second] = one.0;
 }
 
-// Each of two jobs finds the layout that they print on.
-fn set_printed(printed: &mut [u16], one: JobNumber, other: JobNumber, layout: LayoutNumber)
-    requires { ⌜ one .0 < length (now printed) ⌝ }
-    requires { ⌜ other .0 < length (now printed) ⌝ }
-    ensures { λ r. ⌜ now (printed .exit) ≡ set (set (now (printed .entry)) (one .0) (layout .0)) (other .0) (layout .0) ⌝ }
+// Both of two jobs find a layout.
+fn set_layout(layouts: &mut [u16], one: JobNumber, other: JobNumber, layout: LayoutNumber)
+    requires { ⌜ one .0 < length (now layouts) ⌝ }
+    requires { ⌜ other .0 < length (now layouts) ⌝ }
+    ensures { λ r. ⌜ now (layouts .exit) ≡ set (set (now (layouts .entry)) (one .0) (layout .0)) (other .0) (layout .0) ⌝ }
 {
     let first = one.0 as usize;
     let second = other.0 as usize;
-    printed[first] = layout.0;
-    printed[second] = layout.0;
+    layouts[first] = layout.0;
+    layouts[second] = layout.0;
 }
 
 // A job finds nothing.
@@ -44,26 +45,31 @@ fn set_absent(cells: &mut [u16], job: JobNumber)
     cells[at] = model::ABSENT;
 }
 
-// The jobs of a pass find their partners and layouts.
-fn write_pass(pass: Pass, partners: &mut [u16], printed: &mut [u16])
+// The jobs of a pass find their partners and layouts. What two jobs share begins at the highest layout of the earlier.
+fn write_pass(pass: Pass, partners: &mut [u16], uppers: &mut [u16], printed: &mut [u16])
     requires { ⌜ Inside «pass» (length (now partners)) ⌝ }
+    requires { ⌜ length (now uppers) ≡ length (now partners) ⌝ }
     requires { ⌜ length (now printed) ≡ length (now partners) ⌝ }
     ensures { λ r. ⌜ now (partners .exit) ≡ partnersWith «pass» (now (partners .entry)) ⌝ }
+    ensures { λ r. ⌜ now (uppers .exit) ≡ uppersWith «pass» (now (uppers .entry)) ⌝ }
     ensures { λ r. ⌜ now (printed .exit) ≡ printedWith «pass» (now (printed .entry)) ⌝ }
 {
     match pass {
-        Pass::Pair(one, other, layout) => {
+        Pass::Pair(one, other, lower) => {
+            let upper = highest_at(uppers, one);
             set_partners(partners, one, other);
-            set_printed(printed, one, other, layout);
+            set_layout(uppers, one, other, upper);
+            set_layout(printed, one, other, lower);
         }
         Pass::Single(job) => {
             set_absent(partners, job);
+            set_absent(uppers, job);
             set_absent(printed, job);
         }
     }
 }
 
-// Hands all passes back, into results of one cell for each job.
+// Hands all passes back, into results of one cell for each job. The uppers hold the highest layout of each job at first.
 pub fn hand_back(
     parents: &[u16],
     tree: &[u16; TREE],
@@ -71,19 +77,20 @@ pub fn hand_back(
     work: &[u16],
     count: usize,
     partners: &mut [u16],
+    uppers: &mut [u16],
     printed: &mut [u16],
 )
-    requires { ⌜ ((tb : Table) × Plan tb (now parents) (now tree) (now bottoms) (now work) count) ⌝ }
+    requires { ⌜ ((tb : Table) × Plan tb (now parents) (now tree) (now uppers) (now bottoms) (now work) count) ⌝ }
     requires { ⌜ length (now partners) ≡ length (now bottoms) ⌝ }
     requires { ⌜ length (now printed) ≡ length (now bottoms) ⌝ }
-    ensures { λ r. ⌜ ((tb : Table) → Plan tb (now (parents .entry)) (now (tree .entry)) (now (bottoms .entry)) (now (work .entry)) count → Returned tb (now (partners .exit)) (now (printed .exit))) ⌝ }
+    ensures { λ r. ⌜ ((tb : Table) → Plan tb (now (parents .entry)) (now (tree .entry)) (now (uppers .entry)) (now (bottoms .entry)) (now (work .entry)) count → Returned tb (now (partners .exit)) (now (uppers .exit)) (now (printed .exit))) ⌝ }
 {
     let mut minima = [model::ABSENT; ancestry::CELLS];
     ancestry::set_minima(parents, tree, &mut minima);
     let mut k = 0;
     while k < count {
         let pass = passes::pass_at(tree, &minima, bottoms, work, k);
-        write_pass(pass, partners, printed);
+        write_pass(pass, partners, uppers, printed);
         k += 1;
     }
 }

@@ -3,7 +3,7 @@ use Prim.Native.Nat.{ℕ, _+_, _*_}
 use mathlib.Core.Path.{_≡_}
 use mathlib.Core.List.{List, _++_}
 use lib.ListN.{length, take, drop}
-use Rattle.model.specs.Stretch.{stretchOf, numbersOf}
+use Rattle.model.specs.Stretch.{stretchOf, numbersOf, kept}
 use Rattle.model.specs.Outcomes.{SettleOutcome, ReadOutcome, PlanOutcome}
 use Rattle.model.specs.declared.Refusal.{Refusal}
 use Rattle.model.specs.declared.Settled.{Settled}
@@ -45,26 +45,16 @@ copied from to = take (length to) from ++ drop (length from) to
 
 -- *Shared stretch*: its length, and its numbers copied
 pub record CopiedStretch (first second out : List ℕ) (count : ℕ) (out′ : List ℕ) : Type 0 where
-  pub counted : count ≡ length (numbersOf (stretchOf first second) first second)
-  pub out-holds : out′ ≡ copied (numbersOf (stretchOf first second) first second) out
+  pub counted : count ≡ length (numbersOf (stretchOf (kept first) (kept second)) (kept first) (kept second))
+  pub out-holds : out′ ≡ copied (numbersOf (stretchOf (kept first) (kept second)) (kept first) (kept second)) out
 
--- 0, or the refusal
+-- pairs × 2^48 + singles × 2^32 + visits, or 2^63 + the refusal
 abbrev pub packedPlanned : Planned → ℕ
-packedPlanned (planned.Done p) = 0
-packedPlanned (planned.Refused r) = packedRefusal r
-
--- the totals that a plan gives back in one number; after a refusal what stood there
-abbrev pub packedTotals : Planned → ℕ → ℕ
-packedTotals (planned.Done p) old = p .pairs * 281474976710656 + p .singles * 4294967296 + p .visits
-packedTotals (planned.Refused r) old = old
-
--- the answer of *Plan*, packed
-pub record PackedPlanned (result : Planned) (totals packed totals′ : ℕ) : Type 0 where
-  pub packs : packed ≡ packedPlanned result
-  pub totals-hold : totals′ ≡ packedTotals result totals
+packedPlanned (planned.Done p) = p .pairs * 281474976710656 + p .singles * 4294967296 + p .visits
+packedPlanned (planned.Refused r) = packedRefusal r + 9223372036854775808
 
 -- *Plan*, its answer packed
-pub record PackedPlan (parents tops bottoms marks partners printed work : List ℕ) (totals packed : ℕ) (partners′ printed′ work′ : List ℕ) (totals′ : ℕ) : Type 0 where
+pub record PackedPlan (parents tops bottoms marks partners uppers printed work : List ℕ) (packed : ℕ) (partners′ uppers′ printed′ work′ : List ℕ) : Type 0 where
   pub result : Planned
-  pub packs : PackedPlanned result totals packed totals′
-  pub outcome : PlanOutcome parents tops bottoms marks partners printed work result partners′ printed′ work′
+  pub packs : packed ≡ packedPlanned result
+  pub outcome : PlanOutcome parents tops bottoms marks partners uppers printed work result partners′ uppers′ printed′ work′

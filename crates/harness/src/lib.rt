@@ -5,7 +5,7 @@ use model::Refusal;
 use model::Settled;
 use model::TableRead;
 ghost use mathlib.Core.Path.{_≡_};
-ghost use Rattle.harness.specs.Packed.{packedRefusal, packedSettled, packedRead, PackedSettle, PackedTable, copied, CopiedStretch, PackedPlanned, PackedPlan};
+ghost use Rattle.harness.specs.Packed.{packedRefusal, packedSettled, packedRead, PackedSettle, PackedTable, copied, CopiedStretch, packedPlanned, PackedPlan};
 
 // A refusal as number × 65536 + place.
 fn packed_refusal(refusal: Refusal) -> u32
@@ -94,22 +94,23 @@ pub extern "C" fn harness_stretch<'a>(first: &'a [u16], second: &'a [u16], out: 
     shared.len()
 }
 
-// Packs the answer of *Plan*: 0 for done, with the totals written as pairs × 2 ^ 48 + singles × 2 ^ 32 + visits; or the refusal.
-fn packed_planned(answer: Planned, totals: &mut u64) -> u32
-    ensures { λ r. ⌜ PackedPlanned «answer» (now (totals .entry)) r (now (totals .exit)) ⌝ }
+// Pairs × 2^48 + singles × 2^32 + visits, or 2^63 + the refusal.
+fn packed_planned(answer: Planned) -> u64
+    ensures { λ r. ⌜ r ≡ packedPlanned «answer» ⌝ }
 {
     match answer {
         Planned::Done(plan) => {
-            *totals = plan.pairs as u64 * 281474976710656
-                + plan.singles as u64 * 4294967296
-                + plan.visits as u64;
-            0
+            let pairs = plan.pairs as u64;
+            let singles = plan.singles as u64;
+            let visits = plan.visits as u64;
+            pairs * 281474976710656 + singles * 4294967296 + visits
         }
-        Planned::Refused(refusal) => packed_refusal(refusal),
+        Planned::Refused(refusal) => packed_refusal(refusal) as u64 + 9223372036854775808,
     }
 }
 
-// *Plan*: 0 for done, with the totals packed in the last; or a refusal as number × 65536 + place, and the totals as they were.
+// *Plan*: pairs × 2^48 + singles × 2^32 + visits, or a refusal as 2^63 + number × 65536 + place. A plan has at most 2,048 pairs, so the highest bit tells the two
+// apart.
 #[no_mangle]
 pub extern "C" fn harness_plan(
     parents: &[u16],
@@ -117,12 +118,21 @@ pub extern "C" fn harness_plan(
     bottoms: &[u16],
     marks: &[u8],
     partners: &mut [u16],
+    uppers: &mut [u16],
     printed: &mut [u16],
     work: &mut [u16],
-    totals: &mut u64,
-) -> u32
-    ensures { λ r. ⌜ PackedPlan (now (parents .entry)) (now (tops .entry)) (now (bottoms .entry)) (now (marks .entry)) (now (partners .entry)) (now (printed .entry)) (now (work .entry)) (now (totals .entry)) r (now (partners .exit)) (now (printed .exit)) (now (work .exit)) (now (totals .exit)) ⌝ }
+) -> u64
+    ensures { λ r. ⌜ PackedPlan (now (parents .entry)) (now (tops .entry)) (now (bottoms .entry)) (now (marks .entry)) (now (partners .entry)) (now (uppers .entry)) (now (printed .entry)) (now (work .entry)) r (now (partners .exit)) (now (uppers .exit)) (now (printed .exit)) (now (work .exit)) ⌝ }
 {
-    let answer = planner::plan(parents, tops, bottoms, marks, partners, printed, work);
-    packed_planned(answer, totals)
+    let answer = planner::plan(
+        parents,
+        tops,
+        bottoms,
+        marks,
+        partners,
+        uppers,
+        printed,
+        work,
+    );
+    packed_planned(answer)
 }

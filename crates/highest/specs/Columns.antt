@@ -17,11 +17,15 @@ use Rattle.jobs.specs.Accepted.{Accepted}
 abbrev pub unmarked : List ℕ → ℕ → Bool
 unmarked quiet j = eqb (getD quiet j 0) 0
 
--- the highest layouts, and marks at those that ask nobody
-pub record Columns (tb : Table) (highests quiet : List ℕ) : Type 0 where
-  pub highests-length : length highests ≡ jobs tb
-  pub quiet-length : length quiet ≡ jobs tb
+-- the highest layouts by job
+pub record Highests (tb : Table) (highests : List ℕ) : Type 0 where
+  pub counted : length highests ≡ jobs tb
   pub highest-at : (j : ℕ) → j < jobs tb → getD highests j 0 ≡ highest tb j
+
+-- and marks at those that ask nobody
+pub record Columns (tb : Table) (highests quiet : List ℕ) : Type 0 where
+  pub high : Highests tb highests
+  pub quiet-length : length quiet ≡ jobs tb
   pub asks-at : (j : ℕ) → j < jobs tb → unmarked quiet j ≡ asks tb j
 
 -- ---- one job more
@@ -50,9 +54,8 @@ module _ (tb : Table) (a : Accepted tb) where
   pub set-all : (t : ℕ) (tops marks : List ℕ) → jobs tb ≤ t → SetTo tb t tops marks → Columns tb tops marks
   set-all t tops marks all s =
       record {
-        highests-length = s .tops-length;
+        high = record { counted = s .tops-length; highest-at = λ j h. s .highest-at j (omega arith) };
         quiet-length = s .marks-length;
-        highest-at = λ j h. s .highest-at j (omega arith);
         asks-at = λ j h. s .asks-at j (omega arith);
       }
 

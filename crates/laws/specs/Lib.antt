@@ -3,6 +3,7 @@ pub mod Booleans
 pub mod Verdicts
 pub mod Lists
 pub mod Without
+pub mod Reversed
 pub mod Numbers
 pub mod Counting
 pub mod Places

@@ -73,6 +73,27 @@ module _ (R : ℕ → ℕ → Type 0) where
   pairwise-right [] ys p = p
   pairwise-right (x ∷ xs) ys p = pairwise-right xs ys (p .1)
 
+  -- and every member of the first with every member of the second
+  pub pairwise-across : {x y : ℕ} (xs ys : List ℕ) → AllPairs R (xs ++ ys) → Mem x xs → Mem y ys → R x y
+  pairwise-across [] ys p m n = absurd (not-nil m)
+  pairwise-across (z ∷ xs) ys p m n = ⊎-elim (λ e. rw e (all-mem (R z) (p .0) (mem-right xs n))) (λ m. pairwise-across xs ys (p .1) m n) (mem-cons m)
+
+  -- lists in one order that have the same members are the same
+  pub sorted-same : ((x y : ℕ) → R x y → R y x → ⊥) → (xs ys : List ℕ) → AllPairs R xs → AllPairs R ys → ((z : ℕ) → Mem z xs → Mem z ys) → ((z : ℕ) → Mem z ys → Mem z xs) → xs ≡ ys
+  sorted-same asymmetric [] [] p q f g = refl
+  sorted-same asymmetric [] (y ∷ ys) p q f g = absurd (not-nil (g y (here refl)))
+  sorted-same asymmetric (x ∷ xs) [] p q f g = absurd (not-nil (f x (here refl)))
+  sorted-same asymmetric (x ∷ xs) (y ∷ ys) p q f g = rw same (ap (λ (l : List ℕ). y ∷ l) (sorted-same asymmetric xs ys (p .1) (q .1) rest back))
+    where
+      same : x ≡ y
+      same = ⊎-elim (λ e. e) (λ m. ⊎-elim (λ e. sym e) (λ n. absurd (asymmetric x y (all-mem (R x) (p .0) n) (all-mem (R y) (q .0) m))) (mem-cons (g y (here refl)))) (mem-cons (f x (here refl)))
+
+      rest : (z : ℕ) → Mem z xs → Mem z ys
+      rest z m = mem-rest (f z (there m)) (λ e. let r : R x x = subst (R x) (e ∙ sym same) (all-mem (R x) (p .0) m) in asymmetric _ _ r r)
+
+      back : (z : ℕ) → Mem z ys → Mem z xs
+      back z m = mem-rest (g z (there m)) (λ e. let r : R y y = subst (R y) (e ∙ same) (all-mem (R y) (q .0) m) in asymmetric _ _ r r)
+
 -- every member is the head, or the head has the relation to it
 pub head-first : (R : ℕ → ℕ → Type 0) {y : ℕ} {l : List ℕ} (d : ℕ) → AllPairs R l → Mem y l → (y ≡ headD l d) ⊎ R (headD l d) y
 unfolding headD
@@ -158,6 +179,19 @@ pub select-agree : {A : Type 0} (p q : A → Bool) (l : List A) → All (λ (x :
 unfolding select
 select-agree p q [] a = refl
 select-agree p q (x ∷ xs) a = rw (a .0, select-agree p q xs (a .1)) refl
+
+-- where the last passes the test it stays the last
+pub select-last : (p : ℕ → Bool) {y : ℕ} (l : List ℕ) (d e : ℕ) → Mem y l → p (lastD l d) ≡ true → lastD (select p l) e ≡ lastD l d
+unfolding lastD select
+select-last p [] d e m h = absurd (not-nil m)
+select-last p (x ∷ xs) d e m h = passes x xs e h
+  where
+    passes : (x : ℕ) (xs : List ℕ) (e : ℕ) → p (lastD xs x) ≡ true → lastD (select p (x ∷ xs)) e ≡ lastD xs x
+    passes x [] e h = rw h refl
+    passes x (y ∷ ys) e h = ⊎-elim
+        (λ (t : p x ≡ true). rw t (passes y ys x h))
+        (λ (t : p x ≡ false). rw t (passes y ys e h))
+        (answers (p x))
 
 -- ---- lists made member by member
 

@@ -5,7 +5,7 @@ use mathlib.Core.Logic.{⊎-elim, _≢_}
 use mathlib.Core.List.{List, [], _∷_, _++_, map, headD, List·Memᴰ as Mem, List·Memᴰ·head as here, List·Memᴰ·tail as there, List·Memᴰ·not-nil as not-nil, List·Memᴰ·cases-cons as mem-cons}
 use native.Mathlib.Nat.{eq-or-lt-of-le, zero-add, add-zero}
 use native.Mathlib.Omega.{arith}
-use lib.ListN.{length, getD}
+use lib.ListN.{length, getD, length-map, List·getD-append}
 use Rattle.model.specs.Lists.{numbersFrom, numbers, AllPairs}
 use Rattle.laws.specs.Lists.{Distinct, mem-all, pairwise-imply}
 
@@ -76,6 +76,10 @@ range-at f a (suc n) (suc i) d h = range-at f (suc a) n i d (omega arith) ∙ ap
 pub numbers-at : {A : Type 0} (f : ℕ → A) (n i : ℕ) (d : A) → i < n → getD (map f (numbers n)) i d ≡ f i
 unfolding numbers
 numbers-at f n i d h = range-at f 0 n i d h ∙ ap f (omega arith)
+
+-- also where more stands behind it
+pub numbers-before : {A : Type 0} (f : ℕ → A) (n i : ℕ) (d : A) (more : List A) → i < n → getD (map f (numbers n) ++ more) i d ≡ f i
+numbers-before f n i d more h = List·getD-append (map f (numbers n)) more d i (rw (length-map (numbers n) f, numbers-length n) h) ∙ numbers-at f n i d h
 
 -- ---- the first and the last of them
 

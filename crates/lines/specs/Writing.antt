@@ -77,9 +77,9 @@ eight-appended v x y = rw (hex-eight v) (appended-then x y)
 
 -- ---- lines
 
-pub pair-appended : (i j l : ℕ) {at a b c d e : ℕ} {out o₁ o₂ o₃ o₄ o₅ : List ℕ} → Appended 2 at (49 ∷ 49 ∷ []) out a o₁ → Appended 4 a (hex 4 i) o₁ b o₂ → Appended 4 b (hex 4 j) o₂ c o₃ → Appended 4 c (hex 4 l) o₃ d o₄ → Appended 1 d (10 ∷ []) o₄ e o₅ → Appended 15 at (pairLine i j l) out e o₅
+pub pair-appended : (i j u l : ℕ) {at a b c d e f : ℕ} {out o₁ o₂ o₃ o₄ o₅ o₆ : List ℕ} → Appended 2 at (49 ∷ 49 ∷ []) out a o₁ → Appended 4 a (hex 4 i) o₁ b o₂ → Appended 4 b (hex 4 j) o₂ c o₃ → Appended 4 c (hex 4 u) o₃ d o₄ → Appended 4 d (hex 4 l) o₄ e o₅ → Appended 1 e (10 ∷ []) o₅ f o₆ → Appended 19 at (pairLine i j u l) out f o₆
 unfolding pairLine hex digit
-pair-appended i j l v w x y z = appended-then (appended-then v (appended-then w (appended-then x y))) z
+pair-appended i j u l v w x y z end = appended-then (appended-then v (appended-then w (appended-then x (appended-then y z)))) end
 
 pub single-appended : (i : ℕ) {at a b c : ℕ} {out o₁ o₂ o₃ : List ℕ} → Appended 2 at (49 ∷ 50 ∷ []) out a o₁ → Appended 4 a (hex 4 i) o₁ b o₂ → Appended 1 b (10 ∷ []) o₂ c o₃ → Appended 7 at (singleLine i) out c o₃
 unfolding singleLine hex digit

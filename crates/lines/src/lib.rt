@@ -82,23 +82,25 @@ fn put_eight(digits: &[u8; 16], out: &mut [u8], at: usize, value: u32) -> usize
     put_four(digits, out, next, (value % 65536) as u16)
 }
 
-// The line of a pair: its jobs, the earlier first, and the layout that it prints on.
+// The line of a pair: its jobs, the earlier first, and the highest and the deepest layout that they share.
 pub fn put_pair(
     digits: &[u8; 16],
     out: &mut [u8],
     at: usize,
     one: JobNumber,
     other: JobNumber,
-    layout: LayoutNumber,
+    upper: LayoutNumber,
+    lower: LayoutNumber,
 ) -> usize
     requires { ⌜ now digits ≡ digitBytes ⌝ }
-    requires { ⌜ at + 15 ≤ length (now out) ⌝ }
-    ensures { λ r. ⌜ Appended 15 at (pairLine (one .0) (other .0) (layout .0)) (now (out .entry)) r (now (out .exit)) ⌝ }
+    requires { ⌜ at + 19 ≤ length (now out) ⌝ }
+    ensures { λ r. ⌜ Appended 19 at (pairLine (one .0) (other .0) (upper .0) (lower .0)) (now (out .entry)) r (now (out .exit)) ⌝ }
 {
     let first = put_kind(out, at, b'1');
     let second = put_four(digits, out, first, one.0);
     let third = put_four(digits, out, second, other.0);
-    let end = put_four(digits, out, third, layout.0);
+    let fourth = put_four(digits, out, third, upper.0);
+    let end = put_four(digits, out, fourth, lower.0);
     put_byte(out, end, LINE_END)
 }
 

@@ -6,6 +6,7 @@ pub mod Prefix
 pub mod RunningOrder
 pub mod Compatible
 pub mod Partners
+pub mod PartnersShare
 pub mod BareSheet
 pub mod Demand
 pub mod Singles

@@ -1,5 +1,5 @@
--- The worked tables (docs/RULES.md, 15): document 01's "Tables to try" that are marked ◆, planned as 2026-01 asks, tables that tell wrong planners, and what is printed
--- for some: a table of examples, one of printings, and one fact of both.
+-- The worked tables (docs/RULES.md, 15): document 01's "Tables to try" that are marked ◆, planned as 2026-01 and 2026-02 ask, tables that tell wrong planners, what is
+-- printed for some, and worked stretches: a table of examples, one of printings, one of stretches, and one fact of the three.
 use Prim.Native.Nat.{ℕ}
 use mathlib.Core.Path.{_≡_, refl}
 use mathlib.Core.List.{List, [], _∷_, _++_, map, flatMap, headD}
@@ -7,25 +7,26 @@ use lib.ListN.{length, getD}
 use Rattle.model.specs.Lists.{numbersFrom, numbers, elem, indexOf, lastD, anyOf, allOf, select, countWhere, find, total, insertBy, sortBy, without}
 use Rattle.model.specs.Verdict.{Verdict, accepted, refused}
 use Rattle.model.specs.Tree.{FFFF, rightParent, layoutsFrom, treeVerdict, ascend, ancestors, ancestorOrSelf, depth, children, orSelf, leavesWithin, leaves, firstLeaf, lastLeaf}
-use Rattle.model.specs.Jobs.{Table, solo, upTo, pathFrom, path, ownPath, bare, asks, highest, highestDepth, shares, deepestShared, bottomLeaf, jobVerdict}
+use Rattle.model.specs.Jobs.{Table, solo, upTo, pathFrom, path, ownPath, bare, asks, highest, highestDepth, shares, sharedLayouts, highestShared, deepestShared, bottomLeaf, jobVerdict}
 use Rattle.model.specs.Order.{earlier, runningOrder, place, leftward, slotOrder, slot}
 use Rattle.model.specs.Greedy.{Pass, pair, single, greedyStep, greedySteps, greedy, compatible, passes}
 use Rattle.model.specs.Visits.{levelsFrom, levels, cellVisits, visits, asksFor, askedSlots, askedFrom, askedTo, lookupVisits, passVisits, cellCount}
-use Rattle.model.specs.Planning.{workCells, lentVerdict, jobsVerdict, planVerdict, partnerIn, pairCount, singleCount, partners, printed, printedLayouts, pairs, singles}
+use Rattle.model.specs.Planning.{workCells, lentVerdict, jobsVerdict, planVerdict, partnerIn, pairCount, singleCount, partners, upper, upperLayouts, printed, printedLayouts, pairs, singles}
 use Rattle.model.specs.Table.{isDigit, digitValue, numberAfter, lead, lines, frameOfKind, frameOf, isEnd, outOfOrder, contentVerdict, frameVerdict, extended, unlessRefused, readFrame, readLines, readTable}
 use Rattle.model.specs.Output.{digit, hex, pairLine, singleLine, totalsLine, passLine, planBytes, refusalBytes, readingBytes, runBytes}
+use Rattle.model.specs.Stretch.{agreement, startsIn, leading, stretchOf, begun, numbersOf, dropped, kept}
 
--- a plan's passes, `I J L` or `I`, its partners and layouts by job, and its totals; or a refusal's number and place
+-- a plan's passes, `I J U L` or `I`, its partners, upper and printed layouts by job, and its totals; or a refusal's number and place
 data Outcome : Type 0 where
-  plans : List (List ℕ) → List ℕ → List ℕ → ℕ → ℕ → ℕ → Outcome
+  plans : List (List ℕ) → List ℕ → List ℕ → List ℕ → ℕ → ℕ → ℕ → Outcome
   turnsAway : ℕ → ℕ → Outcome
 
 passNumbers : Table → Pass → List ℕ
-passNumbers tb (pair i j) = i ∷ j ∷ printed tb i ∷ []
+passNumbers tb (pair i j) = i ∷ j ∷ upper tb i ∷ printed tb i ∷ []
 passNumbers tb (single i) = i ∷ []
 
 outcome : Table → Verdict → Outcome
-outcome tb accepted = plans (map (passNumbers tb) (passes tb)) (partners tb) (printedLayouts tb) (pairs tb) (singles tb) (cellCount tb)
+outcome tb accepted = plans (map (passNumbers tb) (passes tb)) (partners tb) (upperLayouts tb) (printedLayouts tb) (pairs tb) (singles tb) (cellCount tb)
 outcome tb (refused number place) = turnsAway number place
 
 -- a job as top to bottom
@@ -60,7 +61,7 @@ tableIn e =
 -- what *Plan* does, with buffers of the right sizes
 planned : Example → Outcome
 planned e =
-    outcome (tableIn e) (planVerdict (tableIn e) (length (e .jobs)) (length (e .jobs)) workCells)
+    outcome (tableIn e) (planVerdict (tableIn e) (length (e .jobs)) (length (e .jobs)) (length (e .jobs)) workCells)
 
 F : ℕ
 F = FFFF
@@ -70,49 +71,52 @@ bakehouse =
     record {
       parents = F ∷ 0 ∷ 0 ∷ 1 ∷ [];
       jobs = 0 to 3 ∷ 1 to 3 ∷ 2 to 2 ∷ 0 to 2 ∷ 3 to 3 ∷ [];
-      expected = plans ((4 ∷ 0 ∷ 3 ∷ []) ∷ (1 ∷ []) ∷ (2 ∷ 3 ∷ 2 ∷ []) ∷ []) (4 ∷ F ∷ 3 ∷ 2 ∷ 0 ∷ []) (3 ∷ F ∷ 2 ∷ 2 ∷ 3 ∷ []) 2 1 0x19;
+      expected = plans ((4 ∷ 0 ∷ 3 ∷ 3 ∷ []) ∷ (1 ∷ []) ∷ (2 ∷ 3 ∷ 2 ∷ 2 ∷ []) ∷ []) (4 ∷ F ∷ 3 ∷ 2 ∷ 0 ∷ []) (3 ∷ F ∷ 2 ∷ 2 ∷ 3 ∷ []) (3 ∷ F ∷ 2 ∷ 2 ∷ 3 ∷ []) 2 1 0x19;
     }
 
 examples : List Example
 examples =
     -- those marked ◆
-    record { parents = F ∷ []; jobs = []; expected = plans [] [] [] 0 0 0 }
-    ∷ record { parents = F ∷ []; jobs = 0 to 0 ∷ []; expected = plans ((0 ∷ []) ∷ []) (F ∷ []) (F ∷ []) 0 1 0 }
-    ∷ record { parents = F ∷ []; jobs = 0 to 0 ∷ 0 to 0 ∷ []; expected = plans ((0 ∷ []) ∷ (1 ∷ []) ∷ []) (F ∷ F ∷ []) (F ∷ F ∷ []) 0 2 0 }
-    ∷ record { parents = F ∷ []; jobs = 0 to 0 ∷ 0 soloTo 0 ∷ []; expected = plans ((0 ∷ []) ∷ (1 ∷ []) ∷ []) (F ∷ F ∷ []) (F ∷ F ∷ []) 0 2 0 }
-    ∷ record { parents = F ∷ 0 ∷ []; jobs = 0 to 0 ∷ 1 to 1 ∷ []; expected = plans ((1 ∷ []) ∷ (0 ∷ []) ∷ []) (F ∷ F ∷ []) (F ∷ F ∷ []) 0 2 1 }
+    record { parents = F ∷ []; jobs = []; expected = plans [] [] [] [] 0 0 0 }
+    ∷ record { parents = F ∷ []; jobs = 0 to 0 ∷ []; expected = plans ((0 ∷ []) ∷ []) (F ∷ []) (F ∷ []) (F ∷ []) 0 1 0 }
+    ∷ record { parents = F ∷ []; jobs = 0 to 0 ∷ 0 to 0 ∷ []; expected = plans ((0 ∷ []) ∷ (1 ∷ []) ∷ []) (F ∷ F ∷ []) (F ∷ F ∷ []) (F ∷ F ∷ []) 0 2 0 }
+    ∷ record { parents = F ∷ []; jobs = 0 to 0 ∷ 0 soloTo 0 ∷ []; expected = plans ((0 ∷ []) ∷ (1 ∷ []) ∷ []) (F ∷ F ∷ []) (F ∷ F ∷ []) (F ∷ F ∷ []) 0 2 0 }
+    ∷ record { parents = F ∷ 0 ∷ []; jobs = 0 to 0 ∷ 1 to 1 ∷ []; expected = plans ((1 ∷ []) ∷ (0 ∷ []) ∷ []) (F ∷ F ∷ []) (F ∷ F ∷ []) (F ∷ F ∷ []) 0 2 1 }
     ∷ record {
       parents = F ∷ 0 ∷ 0 ∷ [];
       jobs = 0 to 1 ∷ 0 to 2 ∷ 1 to 1 ∷ 2 to 2 ∷ [];
-      expected = plans ((0 ∷ 2 ∷ 1 ∷ []) ∷ (1 ∷ 3 ∷ 2 ∷ []) ∷ []) (2 ∷ 3 ∷ 0 ∷ 1 ∷ []) (1 ∷ 2 ∷ 1 ∷ 2 ∷ []) 2 0 6;
+      expected = plans ((0 ∷ 2 ∷ 1 ∷ 1 ∷ []) ∷ (1 ∷ 3 ∷ 2 ∷ 2 ∷ []) ∷ []) (2 ∷ 3 ∷ 0 ∷ 1 ∷ []) (1 ∷ 2 ∷ 1 ∷ 2 ∷ []) (1 ∷ 2 ∷ 1 ∷ 2 ∷ []) 2 0 6;
     }
     ∷ record {
       parents = F ∷ 0 ∷ [];
       jobs = 1 to 1 ∷ 1 to 1 ∷ 0 to 1 ∷ 0 to 0 ∷ [];
-      expected = plans ((0 ∷ 1 ∷ 1 ∷ []) ∷ (2 ∷ []) ∷ (3 ∷ []) ∷ []) (1 ∷ 0 ∷ F ∷ F ∷ []) (1 ∷ 1 ∷ F ∷ F ∷ []) 1 2 2;
+      expected = plans ((0 ∷ 1 ∷ 1 ∷ 1 ∷ []) ∷ (2 ∷ []) ∷ (3 ∷ []) ∷ []) (1 ∷ 0 ∷ F ∷ F ∷ []) (1 ∷ 1 ∷ F ∷ F ∷ []) (1 ∷ 1 ∷ F ∷ F ∷ []) 1 2 2;
     }
     ∷ bakehouse
     ∷ record { parents = F ∷ 1 ∷ []; jobs = []; expected = turnsAway 4 1 }
     ∷ record { parents = F ∷ 0 ∷ []; jobs = 1 to 0 ∷ []; expected = turnsAway 6 0 }
     -- those that tell wrong planners: the shallowest first, a later partner, spans without depths, the last never offered, solo jobs paired, the highest shared layout
-    -- printed, jobs 0-0 that ask or have no slot, the order by depth of top
+    -- printed, jobs 0-0 that ask or have no slot, the order by depth of top, the upper layout of the later job (which
+    -- has the smaller number, and then the larger)
     ∷ record {
       parents = F ∷ 0 ∷ 1 ∷ 1 ∷ [];
       jobs = 0 to 2 ∷ 0 to 3 ∷ 2 to 2 ∷ 3 to 3 ∷ [];
-      expected = plans ((2 ∷ 0 ∷ 2 ∷ []) ∷ (3 ∷ 1 ∷ 3 ∷ []) ∷ []) (2 ∷ 3 ∷ 0 ∷ 1 ∷ []) (2 ∷ 3 ∷ 2 ∷ 3 ∷ []) 2 0 6;
+      expected = plans ((2 ∷ 0 ∷ 2 ∷ 2 ∷ []) ∷ (3 ∷ 1 ∷ 3 ∷ 3 ∷ []) ∷ []) (2 ∷ 3 ∷ 0 ∷ 1 ∷ []) (2 ∷ 3 ∷ 2 ∷ 3 ∷ []) (2 ∷ 3 ∷ 2 ∷ 3 ∷ []) 2 0 6;
     }
     ∷ record {
       parents = F ∷ 0 ∷ 1 ∷ [];
       jobs = 0 to 1 ∷ 0 to 2 ∷ 2 to 2 ∷ 2 to 2 ∷ [];
-      expected = plans ((2 ∷ 3 ∷ 2 ∷ []) ∷ (0 ∷ 1 ∷ 1 ∷ []) ∷ []) (1 ∷ 0 ∷ 3 ∷ 2 ∷ []) (1 ∷ 1 ∷ 2 ∷ 2 ∷ []) 2 0 2;
+      expected = plans ((2 ∷ 3 ∷ 2 ∷ 2 ∷ []) ∷ (0 ∷ 1 ∷ 1 ∷ 1 ∷ []) ∷ []) (1 ∷ 0 ∷ 3 ∷ 2 ∷ []) (1 ∷ 1 ∷ 2 ∷ 2 ∷ []) (1 ∷ 1 ∷ 2 ∷ 2 ∷ []) 2 0 2;
     }
-    ∷ record { parents = F ∷ 0 ∷ 1 ∷ []; jobs = 0 to 1 ∷ 2 to 2 ∷ []; expected = plans ((1 ∷ []) ∷ (0 ∷ []) ∷ []) (F ∷ F ∷ []) (F ∷ F ∷ []) 0 2 2 }
-    ∷ record { parents = F ∷ 0 ∷ []; jobs = 0 to 1 ∷ 0 to 1 ∷ []; expected = plans ((0 ∷ 1 ∷ 1 ∷ []) ∷ []) (1 ∷ 0 ∷ []) (1 ∷ 1 ∷ []) 1 0 1 }
-    ∷ record { parents = F ∷ 0 ∷ []; jobs = 1 to 1 ∷ 1 soloTo 1 ∷ []; expected = plans ((0 ∷ []) ∷ (1 ∷ []) ∷ []) (F ∷ F ∷ []) (F ∷ F ∷ []) 0 2 1 }
-    ∷ record { parents = F ∷ 0 ∷ 1 ∷ []; jobs = 0 to 2 ∷ 0 to 2 ∷ []; expected = plans ((0 ∷ 1 ∷ 2 ∷ []) ∷ []) (1 ∷ 0 ∷ []) (2 ∷ 2 ∷ []) 1 0 1 }
-    ∷ record { parents = F ∷ 0 ∷ []; jobs = 1 to 1 ∷ 0 to 0 ∷ 0 to 0 ∷ []; expected = plans ((0 ∷ []) ∷ (1 ∷ []) ∷ (2 ∷ []) ∷ []) (F ∷ F ∷ F ∷ []) (F ∷ F ∷ F ∷ []) 0 3 5 }
-    ∷ record { parents = F ∷ 0 ∷ 0 ∷ []; jobs = 0 to 0 ∷ 2 to 2 ∷ 2 to 2 ∷ []; expected = plans ((1 ∷ 2 ∷ 2 ∷ []) ∷ (0 ∷ []) ∷ []) (F ∷ 2 ∷ 1 ∷ []) (F ∷ 2 ∷ 2 ∷ []) 1 1 7 }
-    ∷ record { parents = F ∷ 0 ∷ []; jobs = 0 to 1 ∷ 1 to 1 ∷ []; expected = plans ((0 ∷ 1 ∷ 1 ∷ []) ∷ []) (1 ∷ 0 ∷ []) (1 ∷ 1 ∷ []) 1 0 1 }
+    ∷ record { parents = F ∷ 0 ∷ 1 ∷ []; jobs = 0 to 1 ∷ 2 to 2 ∷ []; expected = plans ((1 ∷ []) ∷ (0 ∷ []) ∷ []) (F ∷ F ∷ []) (F ∷ F ∷ []) (F ∷ F ∷ []) 0 2 2 }
+    ∷ record { parents = F ∷ 0 ∷ []; jobs = 0 to 1 ∷ 0 to 1 ∷ []; expected = plans ((0 ∷ 1 ∷ 1 ∷ 1 ∷ []) ∷ []) (1 ∷ 0 ∷ []) (1 ∷ 1 ∷ []) (1 ∷ 1 ∷ []) 1 0 1 }
+    ∷ record { parents = F ∷ 0 ∷ []; jobs = 1 to 1 ∷ 1 soloTo 1 ∷ []; expected = plans ((0 ∷ []) ∷ (1 ∷ []) ∷ []) (F ∷ F ∷ []) (F ∷ F ∷ []) (F ∷ F ∷ []) 0 2 1 }
+    ∷ record { parents = F ∷ 0 ∷ 1 ∷ []; jobs = 0 to 2 ∷ 0 to 2 ∷ []; expected = plans ((0 ∷ 1 ∷ 1 ∷ 2 ∷ []) ∷ []) (1 ∷ 0 ∷ []) (1 ∷ 1 ∷ []) (2 ∷ 2 ∷ []) 1 0 1 }
+    ∷ record { parents = F ∷ 0 ∷ []; jobs = 1 to 1 ∷ 0 to 0 ∷ 0 to 0 ∷ []; expected = plans ((0 ∷ []) ∷ (1 ∷ []) ∷ (2 ∷ []) ∷ []) (F ∷ F ∷ F ∷ []) (F ∷ F ∷ F ∷ []) (F ∷ F ∷ F ∷ []) 0 3 5 }
+    ∷ record { parents = F ∷ 0 ∷ 0 ∷ []; jobs = 0 to 0 ∷ 2 to 2 ∷ 2 to 2 ∷ []; expected = plans ((1 ∷ 2 ∷ 2 ∷ 2 ∷ []) ∷ (0 ∷ []) ∷ []) (F ∷ 2 ∷ 1 ∷ []) (F ∷ 2 ∷ 2 ∷ []) (F ∷ 2 ∷ 2 ∷ []) 1 1 7 }
+    ∷ record { parents = F ∷ 0 ∷ []; jobs = 0 to 1 ∷ 1 to 1 ∷ []; expected = plans ((0 ∷ 1 ∷ 1 ∷ 1 ∷ []) ∷ []) (1 ∷ 0 ∷ []) (1 ∷ 1 ∷ []) (1 ∷ 1 ∷ []) 1 0 1 }
+    ∷ record { parents = F ∷ 0 ∷ 1 ∷ 2 ∷ []; jobs = 1 to 3 ∷ 2 to 3 ∷ []; expected = plans ((1 ∷ 0 ∷ 2 ∷ 3 ∷ []) ∷ []) (1 ∷ 0 ∷ []) (2 ∷ 2 ∷ []) (3 ∷ 3 ∷ []) 1 0 1 }
+    ∷ record { parents = F ∷ 0 ∷ 1 ∷ 2 ∷ []; jobs = 2 to 3 ∷ 1 to 3 ∷ []; expected = plans ((0 ∷ 1 ∷ 2 ∷ 3 ∷ []) ∷ []) (1 ∷ 0 ∷ []) (2 ∷ 2 ∷ []) (3 ∷ 3 ∷ []) 1 0 1 }
     ∷ []
 
 -- ---- from bytes to bytes
@@ -126,8 +130,8 @@ record Printing : Type 0 where
   lines : List (List ℕ)
   spells : List (List ℕ)
 
--- the bakehouse table, no bytes at all, the two refused tables, and F 0; solo 1-1, 1-1, 1-1: a solo job has its place and its slot, so W is 4 and the lookup of
--- job 1 visits 5 cells
+-- the bakehouse table, no bytes at all, the two refused tables, F 0; solo 1-1, 1-1, 1-1: a solo job has its place and its slot, so W is 4 and the lookup of
+-- job 1 visits 5 cells; and F 0 1; 0-2, 0-2: what the two share runs from 1 to 2
 printings : List Printing
 printings =
     record {
@@ -144,9 +148,9 @@ printings =
           ∷ (0 ∷ 3 ∷ 0 ∷ 0 ∷ 0 ∷ 4 ∷ 0 ∷ 0 ∷ 0 ∷ 5 ∷ [])
           ∷ [];
       spells =
-          (1 ∷ 1 ∷ 0 ∷ 0 ∷ 0 ∷ 4 ∷ 0 ∷ 0 ∷ 0 ∷ 0 ∷ 0 ∷ 0 ∷ 0 ∷ 3 ∷ [])
+          (1 ∷ 1 ∷ 0 ∷ 0 ∷ 0 ∷ 4 ∷ 0 ∷ 0 ∷ 0 ∷ 0 ∷ 0 ∷ 0 ∷ 0 ∷ 3 ∷ 0 ∷ 0 ∷ 0 ∷ 3 ∷ [])
           ∷ (1 ∷ 2 ∷ 0 ∷ 0 ∷ 0 ∷ 1 ∷ [])
-          ∷ (1 ∷ 1 ∷ 0 ∷ 0 ∷ 0 ∷ 2 ∷ 0 ∷ 0 ∷ 0 ∷ 3 ∷ 0 ∷ 0 ∷ 0 ∷ 2 ∷ [])
+          ∷ (1 ∷ 1 ∷ 0 ∷ 0 ∷ 0 ∷ 2 ∷ 0 ∷ 0 ∷ 0 ∷ 3 ∷ 0 ∷ 0 ∷ 0 ∷ 2 ∷ 0 ∷ 0 ∷ 0 ∷ 2 ∷ [])
           ∷ (1 ∷ 15 ∷ 0 ∷ 0 ∷ 0 ∷ 2 ∷ 0 ∷ 0 ∷ 0 ∷ 1 ∷ 0 ∷ 0 ∷ 0 ∷ 0 ∷ 0 ∷ 0 ∷ 1 ∷ 9 ∷ [])
           ∷ [];
     }
@@ -170,20 +174,74 @@ printings =
           ∷ [];
       spells =
           (1 ∷ 2 ∷ 0 ∷ 0 ∷ 0 ∷ 0 ∷ [])
-          ∷ (1 ∷ 1 ∷ 0 ∷ 0 ∷ 0 ∷ 1 ∷ 0 ∷ 0 ∷ 0 ∷ 2 ∷ 0 ∷ 0 ∷ 0 ∷ 1 ∷ [])
+          ∷ (1 ∷ 1 ∷ 0 ∷ 0 ∷ 0 ∷ 1 ∷ 0 ∷ 0 ∷ 0 ∷ 2 ∷ 0 ∷ 0 ∷ 0 ∷ 1 ∷ 0 ∷ 0 ∷ 0 ∷ 1 ∷ [])
           ∷ (1 ∷ 15 ∷ 0 ∷ 0 ∷ 0 ∷ 1 ∷ 0 ∷ 0 ∷ 0 ∷ 1 ∷ 0 ∷ 0 ∷ 0 ∷ 0 ∷ 0 ∷ 0 ∷ 0 ∷ 5 ∷ [])
+          ∷ [];
+    }
+    ∷ record {
+      lines =
+          (0 ∷ 1 ∷ 15 ∷ 15 ∷ 15 ∷ 15 ∷ [])
+          ∷ (0 ∷ 1 ∷ 0 ∷ 0 ∷ 0 ∷ 0 ∷ [])
+          ∷ (0 ∷ 1 ∷ 0 ∷ 0 ∷ 0 ∷ 1 ∷ [])
+          ∷ (0 ∷ 2 ∷ 0 ∷ 0 ∷ 0 ∷ 0 ∷ 0 ∷ 0 ∷ 0 ∷ 2 ∷ [])
+          ∷ (0 ∷ 2 ∷ 0 ∷ 0 ∷ 0 ∷ 0 ∷ 0 ∷ 0 ∷ 0 ∷ 2 ∷ [])
+          ∷ (0 ∷ 3 ∷ 0 ∷ 0 ∷ 0 ∷ 3 ∷ 0 ∷ 0 ∷ 0 ∷ 2 ∷ [])
+          ∷ [];
+      spells =
+          (1 ∷ 1 ∷ 0 ∷ 0 ∷ 0 ∷ 0 ∷ 0 ∷ 0 ∷ 0 ∷ 1 ∷ 0 ∷ 0 ∷ 0 ∷ 1 ∷ 0 ∷ 0 ∷ 0 ∷ 2 ∷ [])
+          ∷ (1 ∷ 15 ∷ 0 ∷ 0 ∷ 0 ∷ 1 ∷ 0 ∷ 0 ∷ 0 ∷ 0 ∷ 0 ∷ 0 ∷ 0 ∷ 0 ∷ 0 ∷ 0 ∷ 0 ∷ 1 ∷ [])
           ∷ [];
     }
     ∷ []
 
+-- ---- stretches
+
+-- two lists, and of their shared stretch the list that it begins, the cell of that list at which it starts, and its numbers
+data Which : Type 0 where
+  first : Which
+  second : Which
+
+record Stretched : Type 0 where
+  one : List ℕ
+  other : List ℕ
+  begins : Which
+  from : ℕ
+  numbered : List ℕ
+
+-- no numbers; nothing shared; a leading 0 in both, in one, and alone; two leading zeros; zeros inside; equal lists; the second begins it; the first place counts
+stretches : List Stretched
+stretches =
+    record { one = []; other = []; begins = first; from = 0; numbered = [] }
+    ∷ record { one = 0 ∷ 1 ∷ []; other = []; begins = first; from = 1; numbered = [] }
+    ∷ record { one = 1 ∷ []; other = 0 ∷ 2 ∷ []; begins = first; from = 0; numbered = [] }
+    ∷ record { one = 0 ∷ []; other = 0 ∷ []; begins = first; from = 1; numbered = [] }
+    ∷ record { one = 0 ∷ 1 ∷ 2 ∷ []; other = 0 ∷ 1 ∷ 3 ∷ []; begins = first; from = 1; numbered = 1 ∷ [] }
+    ∷ record { one = 1 ∷ 2 ∷ []; other = 0 ∷ 1 ∷ 2 ∷ []; begins = first; from = 0; numbered = 1 ∷ 2 ∷ [] }
+    ∷ record { one = 0 ∷ 1 ∷ 2 ∷ []; other = 1 ∷ 2 ∷ []; begins = first; from = 1; numbered = 1 ∷ 2 ∷ [] }
+    ∷ record { one = 1 ∷ 2 ∷ []; other = 1 ∷ 2 ∷ []; begins = first; from = 0; numbered = 1 ∷ 2 ∷ [] }
+    ∷ record { one = 2 ∷ 3 ∷ []; other = 0 ∷ 1 ∷ 2 ∷ 3 ∷ 4 ∷ []; begins = first; from = 0; numbered = 2 ∷ 3 ∷ [] }
+    ∷ record { one = 0 ∷ 0 ∷ []; other = 0 ∷ 0 ∷ []; begins = first; from = 1; numbered = 0 ∷ [] }
+    ∷ record { one = 0 ∷ 0 ∷ 1 ∷ []; other = 0 ∷ 1 ∷ []; begins = second; from = 1; numbered = 1 ∷ [] }
+    ∷ record { one = 1 ∷ 0 ∷ 2 ∷ []; other = 0 ∷ 1 ∷ 0 ∷ 2 ∷ []; begins = first; from = 0; numbered = 1 ∷ 0 ∷ 2 ∷ [] }
+    ∷ record { one = 0 ∷ 1 ∷ 2 ∷ 3 ∷ []; other = 2 ∷ 3 ∷ 4 ∷ []; begins = second; from = 0; numbered = 2 ∷ 3 ∷ [] }
+    ∷ record { one = 3 ∷ 1 ∷ []; other = 0 ∷ 3 ∷ 5 ∷ 3 ∷ 1 ∷ []; begins = first; from = 0; numbered = 3 ∷ [] }
+    ∷ []
+
+-- what the definitions make of the two lists
+stretched : Stretched → Stretched
+stretched e =
+    let s = stretchOf (kept (e .one)) (kept (e .other)) in
+    record { one = e .one; other = e .other; begins = begun s first second; from = begun s (dropped (e .one)) (dropped (e .other)); numbered = numbersOf s (kept (e .one)) (kept (e .other)) }
+
 -- ---- the fact
 
--- each table is planned or refused as expected, each printing is as spelled, the bakehouse has its running order, and the lookups of jobs 4, 1 and 2 visit
--- 7, 7 and 11 cells
+-- each table is planned or refused as expected, each printing is as spelled, each stretch is as written, the bakehouse has its running order, and the lookups of
+-- jobs 4, 1 and 2 visit 7, 7 and 11 cells
 examples-hold :
     (map planned examples ≡ map (λ (e : Example). e .expected) examples)
     × (map (λ (e : Printing). runBytes (flatMap spelled (e .lines))) printings ≡ map (λ (e : Printing). flatMap spelled (e .spells)) printings)
+    × (map stretched stretches ≡ stretches)
     × (runningOrder (tableIn bakehouse) ≡ 4 ∷ 0 ∷ 1 ∷ 2 ∷ 3 ∷ [])
     × (map (lookupVisits (tableIn bakehouse)) (4 ∷ 1 ∷ 2 ∷ []) ≡ 7 ∷ 7 ∷ 11 ∷ [])
-unfolding numbersFrom numbers elem indexOf lastD anyOf allOf select countWhere find total insertBy sortBy rightParent layoutsFrom treeVerdict ascend ancestors ancestorOrSelf depth children orSelf leavesWithin leaves firstLeaf lastLeaf solo upTo pathFrom path ownPath bare asks highest highestDepth shares deepestShared bottomLeaf jobVerdict earlier runningOrder place leftward slotOrder slot without greedyStep greedySteps greedy compatible passes levelsFrom levels cellVisits visits asksFor askedSlots askedFrom askedTo lookupVisits passVisits cellCount lentVerdict jobsVerdict planVerdict partnerIn pairCount singleCount partners printed printedLayouts pairs singles passNumbers outcome _to_ _soloTo_ tableIn planned F bakehouse examples flatMap headD isDigit digitValue numberAfter lead lines frameOfKind frameOf isEnd outOfOrder contentVerdict frameVerdict extended unlessRefused readFrame readLines readTable digit hex pairLine singleLine totalsLine passLine planBytes refusalBytes readingBytes runBytes spelled printings
-examples-hold = (refl, refl, refl, refl)
+unfolding numbersFrom numbers elem indexOf lastD anyOf allOf select countWhere find total insertBy sortBy rightParent layoutsFrom treeVerdict ascend ancestors ancestorOrSelf depth children orSelf leavesWithin leaves firstLeaf lastLeaf solo upTo pathFrom path ownPath bare asks highest highestDepth shares sharedLayouts highestShared deepestShared bottomLeaf jobVerdict earlier runningOrder place leftward slotOrder slot without greedyStep greedySteps greedy compatible passes levelsFrom levels cellVisits visits asksFor askedSlots askedFrom askedTo lookupVisits passVisits cellCount lentVerdict jobsVerdict planVerdict partnerIn pairCount singleCount partners upper upperLayouts printed printedLayouts pairs singles passNumbers outcome _to_ _soloTo_ tableIn planned F bakehouse examples flatMap headD isDigit digitValue numberAfter lead lines frameOfKind frameOf isEnd outOfOrder contentVerdict frameVerdict extended unlessRefused readFrame readLines readTable digit hex pairLine singleLine totalsLine passLine planBytes refusalBytes readingBytes runBytes spelled printings agreement startsIn leading stretchOf dropped stretched stretches
+examples-hold = (refl, refl, refl, refl, refl)

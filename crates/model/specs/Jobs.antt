@@ -1,4 +1,4 @@
--- Jobs as downward paths, and sharing (docs/RULES.md, 4; document 01, "The tree and the running order", as 2026-01 changed it; 000, Definition 3).
+-- Jobs as downward paths, and sharing (docs/RULES.md, 4; document 01, "The tree and the running order", as 2026-01 and 2026-02 changed it; 000, Definition 3).
 use Prim.Native.Nat.{ℕ}
 use mathlib.Core.Bool.{Bool, cond, not, _&&_, _||_}
 use mathlib.Core.List.{List, [], _∷_, headD}
@@ -76,9 +76,17 @@ module _ (tb : Table) where
   unfoldable pub shares : ℕ → ℕ → Bool
   shares i j = anyOf (λ (x : ℕ). elem x (ownPath j)) (ownPath i)
 
-  -- the deepest layout other than 0 on both paths, on which the pair prints
+  -- the layouts other than 0 on both paths, from the deepest up
+  unfoldable pub sharedLayouts : ℕ → ℕ → List ℕ
+  sharedLayouts i j = select (λ (x : ℕ). elem x (ownPath j)) (ownPath i)
+
+  -- the highest of them, the barest on which the pair could print
+  unfoldable pub highestShared : ℕ → ℕ → ℕ
+  highestShared i j = lastD (sharedLayouts i j) FFFF
+
+  -- the deepest of them, on which the pair prints
   unfoldable pub deepestShared : ℕ → ℕ → ℕ
-  deepestShared i j = headD (select (λ (x : ℕ). elem x (ownPath j)) (ownPath i)) FFFF
+  deepestShared i j = headD (sharedLayouts i j) FFFF
 
   -- the first leaf of a job's bottom
   unfoldable pub bottomLeaf : ℕ → ℕ

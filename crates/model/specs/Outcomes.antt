@@ -41,17 +41,18 @@ abbrev pub ReadOutcome : List ℕ → List ℕ → List ℕ → List ℕ → Lis
 ReadOutcome bytes parents tops bottoms marks =
     ReadAs (buffersVerdict (length parents) (length tops) (length bottoms) (length marks)) (readTable bytes) parents tops bottoms marks
 
--- *Plan* under its verdict v: partners, printed layouts, totals and work cells, and, where totals are given back, that no rival plan beats what was handed back
-pub record PlannedAs (v : Verdict) (tb : Table) (partners printed work : List ℕ) (r : Planned) (partners′ printed′ work′ : List ℕ) : Type 0 where
+-- *Plan* under its verdict v: partners, upper and printed layouts, totals and work cells, and, where totals are given back, that no rival plan beats what was handed back
+pub record PlannedAs (v : Verdict) (tb : Table) (partners uppers printed work : List ℕ) (r : Planned) (partners′ uppers′ printed′ work′ : List ℕ) : Type 0 where
   pub answered : plannedAnswer r ≡ answer v (Planning.pairs tb ∷ Planning.singles tb ∷ cellCount tb ∷ [])
   pub partners-hold : partners′ ≡ lent v partners (Planning.partners tb ++ drop (jobs tb) partners)
+  pub uppers-hold : uppers′ ≡ lent v uppers (Planning.upperLayouts tb ++ drop (jobs tb) uppers)
   pub printed-hold : printed′ ≡ lent v printed (Planning.printedLayouts tb ++ drop (jobs tb) printed)
   pub work-holds : work′ ≡ lent v work (replicate Planning.workCells 0 ++ drop Planning.workCells work)
   pub maximum : (t : Totals) → r ≡ planned.Done t → MaximumAtEveryCut tb partners′ (t .pairs) (t .singles)
 
-abbrev pub PlanOutcome : List ℕ → List ℕ → List ℕ → List ℕ → List ℕ → List ℕ → List ℕ → Planned → List ℕ → List ℕ → List ℕ → Type 0
-PlanOutcome parents tops bottoms marks partners printed work =
-    PlannedAs (Planning.planVerdict (tableOf parents tops bottoms marks) (length partners) (length printed) (length work)) (tableOf parents tops bottoms marks) partners printed work
+abbrev pub PlanOutcome : List ℕ → List ℕ → List ℕ → List ℕ → List ℕ → List ℕ → List ℕ → List ℕ → Planned → List ℕ → List ℕ → List ℕ → List ℕ → Type 0
+PlanOutcome parents tops bottoms marks partners uppers printed work =
+    PlannedAs (Planning.planVerdict (tableOf parents tops bottoms marks) (length partners) (length uppers) (length printed) (length work)) (tableOf parents tops bottoms marks) partners uppers printed work
 
 -- *Whole run*: the length answered, and the output as it is left. That *Plan* accepts what was read, and that the lines are what it hands back, are laws of the crate
 -- `run`: Sound `read-accepted`, OfPlan `run-prints-plan`

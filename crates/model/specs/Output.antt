@@ -8,7 +8,7 @@ use Rattle.model.specs.Verdict.{Verdict, accepted, refused, refuseIf, le
 use Rattle.model.specs.Jobs.{Table}
 use Rattle.model.specs.Greedy.{Pass, pair, single, passes}
 use Rattle.model.specs.Visits.{cellCount}
-use Rattle.model.specs.Planning.{printed, pairs, singles}
+use Rattle.model.specs.Planning.{upper, printed, pairs, singles}
 use Rattle.model.specs.Table.{Reading, read, stopped, readTable}
 
 unfoldable pub digit : ℕ → ℕ
@@ -23,9 +23,9 @@ hex (suc k) n = hex k (n / 16) ++ digit (n % 16) ∷ []
 abbrev pub line : List ℕ → List ℕ
 line digits = digits ++ 10 ∷ []
 
--- 11 I J L
-unfoldable pub pairLine : ℕ → ℕ → ℕ → List ℕ
-pairLine i j layout = line (hex 2 0x11 ++ (hex 4 i ++ (hex 4 j ++ hex 4 layout)))
+-- 11 I J U L
+unfoldable pub pairLine : ℕ → ℕ → ℕ → ℕ → List ℕ
+pairLine i j upper lower = line (hex 2 0x11 ++ (hex 4 i ++ (hex 4 j ++ (hex 4 upper ++ hex 4 lower))))
 
 -- 12 I
 unfoldable pub singleLine : ℕ → List ℕ
@@ -37,7 +37,7 @@ totalsLine pairs singles visits = line (hex 2 0x1F ++ (hex 4 pairs ++ (hex 4 sin
 
 -- the line of a pass
 unfoldable pub passLine : Table → Pass → List ℕ
-passLine tb (pair i j) = pairLine i j (printed tb i)
+passLine tb (pair i j) = pairLine i j (upper tb i) (printed tb i)
 passLine tb (single i) = singleLine i
 
 -- one line a pass, ordered by the earlier place in it, and the totals
@@ -59,9 +59,9 @@ runBytes bytes = readingBytes (readTable bytes)
 
 -- bytes of output that the whole run needs
 abbrev pub outputBytes : ℕ
-outputBytes = 32768
+outputBytes = 40960
 
--- 8: output below 32,768 bytes
+-- 8: output below 40,960 bytes
 unfoldable pub outputVerdict : ℕ → Verdict
 outputVerdict n = refuseIf (ltb n outputBytes) 8 0
 

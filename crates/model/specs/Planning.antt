@@ -7,7 +7,7 @@ use lib.Dec.{eqb, ltb}
 use Rattle.model.specs.Lists.{numbers, total}
 use Rattle.model.specs.Verdict.{Verdict, accepted, refuseIf, _then_}
 use Rattle.model.specs.Tree.{FFFF, layoutLimit, treeVerdict}
-use Rattle.model.specs.Jobs.{Table, jobs, jobLimit, top, bottom, jobVerdict, deepestShared}
+use Rattle.model.specs.Jobs.{Table, jobs, jobLimit, top, bottom, jobVerdict, highestShared, deepestShared}
 use Rattle.model.specs.Greedy.{Pass, pair, single, passes}
 
 -- work cells that *Plan* needs
@@ -15,12 +15,13 @@ abbrev pub workCells : ℕ
 workCells = 32768
 
 -- 8: tops, bottoms and marks of unequal length, a result shorter than tops, or too few work cells
-unfoldable pub lentVerdict : Table → ℕ → ℕ → ℕ → Verdict
-lentVerdict tb partners printed work =
+unfoldable pub lentVerdict : Table → ℕ → ℕ → ℕ → ℕ → Verdict
+lentVerdict tb partners uppers printed work =
     refuseIf
     (not (eqb (jobs tb) (length (tb .bottoms)))
     || not (eqb (jobs tb) (length (tb .marks)))
     || ltb partners (jobs tb)
+    || ltb uppers (jobs tb)
     || ltb printed (jobs tb)
     || ltb work workCells)
     8 0
@@ -32,9 +33,9 @@ jobsVerdict tb =
     (map (λ (j : ℕ). jobVerdict (tb .parents) (top tb j) (bottom tb j) j) (numbers (jobs tb)))
 
 -- the verdict of *Plan*, given the lengths of the results and of the work cells
-unfoldable pub planVerdict : Table → ℕ → ℕ → ℕ → Verdict
-planVerdict tb partners printed work =
-    lentVerdict tb partners printed work
+unfoldable pub planVerdict : Table → ℕ → ℕ → ℕ → ℕ → Verdict
+planVerdict tb partners uppers printed work =
+    lentVerdict tb partners uppers printed work
     then refuseIf (ltb layoutLimit (length (tb .parents)) || ltb jobLimit (jobs tb)) 3 0
     then treeVerdict (tb .parents)
     then jobsVerdict tb
@@ -59,9 +60,19 @@ module _ (tb : Table) where
   unfoldable pub partners : List ℕ
   partners = map (partnerIn (passes tb)) (numbers (jobs tb))
 
-  -- the layout that j's pass prints, FFFF where it has no partner. Both jobs of a pair find the same (ancestry/Ancestry `shared-symmetric`)
+  -- what f tells of a job and its partner, FFFF where it has none
+  abbrev pub withPartner : (ℕ → ℕ → ℕ) → ℕ → ℕ
+  withPartner f j = cond (eqb (partnerIn (passes tb) j) FFFF) FFFF (f j (partnerIn (passes tb) j))
+
+  -- the highest layout that j shares with its partner, and the deepest, which their pass prints: both jobs of a pair find the same (tree_laws/Shared `shared-same`)
+  unfoldable pub upper : ℕ → ℕ
+  upper = withPartner (highestShared tb)
+
   unfoldable pub printed : ℕ → ℕ
-  printed j = cond (eqb (partnerIn (passes tb) j) FFFF) FFFF (deepestShared tb j (partnerIn (passes tb) j))
+  printed = withPartner (deepestShared tb)
+
+  unfoldable pub upperLayouts : List ℕ
+  upperLayouts = map upper (numbers (jobs tb))
 
   unfoldable pub printedLayouts : List ℕ
   printedLayouts = map printed (numbers (jobs tb))

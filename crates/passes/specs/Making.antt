@@ -9,6 +9,7 @@ use Rattle.model.specs.Visits.{levels}
 use Rattle.model.specs.declared.Totals.{Totals}
 use Rattle.settle.specs.Spanned.{Spanned}
 use Rattle.jobs.specs.Accepted.{Accepted}
+use Rattle.highest.specs.Columns.{Highests}
 use Rattle.matching.specs.Partners.{jobs-counted, passes-length}
 use Rattle.schedule.specs.InWork.{treePart, Swept}
 use Rattle.schedule.specs.OfTable.{Prepared}
@@ -22,9 +23,9 @@ abbrev pub Roomy : ℕ → List ℕ → Type 0
 Roomy n work = treePart * n + 2 * 2 ^ levels n ≤ length work
 
 -- the plan and its totals
-pub record Made (tb : Table) (ps tree bottoms old : List ℕ) (t : Totals) (work : List ℕ) : Type 0 where
+pub record Made (tb : Table) (ps tree bottoms old : List ℕ) (t : Totals) (highests work : List ℕ) : Type 0 where
   pub kept : length work ≡ length old
-  pub plan : Plan tb ps tree bottoms work (t .pairs + t .singles)
+  pub plan : Plan tb ps tree highests bottoms work (t .pairs + t .singles)
   pub totals : TotalsOf tb t
 
 module _ (tb : Table) (a : Accepted tb) where
@@ -37,9 +38,9 @@ module _ (tb : Table) (a : Accepted tb) where
     pub pairs-few : 2 * pairs ≤ jobs tb
     pairs-few = omega (arith, swept-pairs tb a old new pairs visits p w, jobs-counted tb)
 
-    pub made : (ps tree bottoms start : List ℕ) → tb .parents ≡ ps → tb .bottoms ≡ bottoms → Spanned ps tree → Roomy (jobs tb) start → length old ≡ length start
-        → (t : Totals) → t .pairs ≡ pairs → t .singles ≡ jobs tb - 2 * pairs → t .visits ≡ visits → Made tb ps tree bottoms start t new
-    made ps tree bottoms start parents-are bottoms-are s room same t tp ts tv =
+    pub made : (ps tree highests bottoms start : List ℕ) → tb .parents ≡ ps → tb .bottoms ≡ bottoms → Spanned ps tree → Highests tb highests → Roomy (jobs tb) start → length old ≡ length start
+        → (t : Totals) → t .pairs ≡ pairs → t .singles ≡ jobs tb - 2 * pairs → t .visits ≡ visits → Made tb ps tree bottoms start t highests new
+    made ps tree highests bottoms start parents-are bottoms-are s columns room same t tp ts tv =
         let of : TotalsOf tb t = record {
           pairs-are = tp ∙ swept-pairs tb a old new pairs visits p w;
           singles-are = ts ∙ omega (arith, swept-pairs tb a old new pairs visits p w, jobs-counted tb);
@@ -54,6 +55,7 @@ module _ (tb : Table) (a : Accepted tb) where
                 bottoms-are = bottoms-are;
                 table = a;
                 spanned = s;
+                high = columns;
                 plan = swept-plan tb a old new pairs visits (rw same (omega arith)) p w;
                 count-is = omega (arith, of .pairs-are, of .singles-are, passes-length tb);
               };

@@ -2,25 +2,26 @@
 use Prim.Native.Nat.{ℕ, zero, suc, _<_}
 use mathlib.Core.Path.{_≡_, refl, sym, ap, _∙_}
 use mathlib.Core.Logic.{_≢_}
-use mathlib.Core.Bool.{true}
 use mathlib.Core.List.{List, [], _∷_, List·Memᴰ as Mem, List·Memᴰ·tail as there}
 use native.Mathlib.Omega.{arith}
 use lib.ListN.{length, getD}
 use borrow.Author.Tests.{ne-eqb}
 use Rattle.model.specs.Tree.{FFFF}
-use Rattle.model.specs.Jobs.{Table, jobs, deepestShared}
-use Rattle.model.specs.Greedy.{Pass, pair, single, compatible, passes}
+use Rattle.model.specs.Jobs.{Table, jobs, highest, deepestShared}
+use Rattle.model.specs.Order.{place}
+use Rattle.model.specs.Greedy.{Pass, pair, single, passes}
 use Rattle.model.specs.Visits.{cellCount}
-use Rattle.model.specs.Planning.{partnerIn, printed, pairs, singles}
+use Rattle.model.specs.Planning.{partnerIn, upper, printed, pairs, singles}
 use Rattle.model.specs.declared.Totals.{Totals}
 use Rattle.model.specs.Rival.{Pair}
 use Rattle.laws.specs.Lists.{Distinct, all-mem}
 use Rattle.settle.specs.Spanned.{Spanned}
 use Rattle.jobs.specs.Accepted.{Accepted}
-use Rattle.ancestry.specs.Ancestry.{shared-symmetric}
-use Rattle.matching.specs.Compatible.{compatible-true}
+use Rattle.highest.specs.Columns.{Highests}
+use Rattle.tree_laws.specs.Shared.{deepest-same}
 use Rattle.matching.specs.Passes.{pairsIn, vertices}
-use Rattle.matching.specs.Partners.{pair-partners, partner-none, passes-distinct, passes-known, passes-compatible}
+use Rattle.matching.specs.Partners.{pair-partners, partner-none, passes-distinct, passes-known, passes-places}
+use Rattle.matching.specs.PartnersShare.{told, upper-earlier, upper-later}
 use Rattle.passes.specs.Read.{PassCells, PassRead}
 use Rattle.passes.specs.OfTable.{PlanIn, PassIs, planPass, pass-among, pass-cells, pass-read}
 use Rattle.passes.specs.declared.Pass as declared
@@ -39,10 +40,6 @@ alone-partner (pair a b ∷ ps) d (suc k) i h e =
 -- ---- what a pass gives its jobs
 
 module _ (tb : Table) (a : Accepted tb) where
-  -- a known job is not FFFF
-  some-partner : (j : ℕ) → j < jobs tb → j ≢ FFFF
-  some-partner j h e = omega (arith, a .few)
-
   -- what the pass of two jobs gives each
   module _ (k i j : ℕ) (h : k < length (passes tb)) (is : planPass tb k ≡ pair i j) where
     among : Mem i (vertices (passes tb)) × Mem j (vertices (passes tb)) × Mem (record { one = i; other = j }) (pairsIn (passes tb))
@@ -62,14 +59,23 @@ module _ (tb : Table) (a : Accepted tb) where
 
     pub one-printed : printed tb i ≡ deepestShared tb i j
     unfolding printed
-    one-printed = rw (one-partner, ne-eqb j FFFF (some-partner j other-known)) refl
+    one-printed = told tb (a .tree) (a .downward) (a .few) i j one-known other-known one-partner (deepestShared tb)
 
     pub other-printed : printed tb j ≡ deepestShared tb i j
     unfolding printed
     other-printed =
-        let fit = all-mem (λ (p : Pair). compatible tb (p .one) (p .other) ≡ true) (passes-compatible tb) (among .2) in
-        rw (other-partner, ne-eqb i FFFF (some-partner i one-known))
-        (sym (shared-symmetric tb a i j one-known other-known (compatible-true tb i j fit .2)))
+        told tb (a .tree) (a .downward) (a .few) j i other-known one-known other-partner (deepestShared tb)
+        ∙ deepest-same tb (a .tree) j i (a .downward j other-known) (a .downward i one-known)
+
+    before : place tb i < place tb j
+    before = all-mem (λ (p : Pair). place tb (p .one) < place tb (p .other)) (passes-places tb) (among .2)
+
+    -- both find the highest layout of the earlier
+    pub one-upper : upper tb i ≡ highest tb i
+    one-upper = upper-earlier tb (a .tree) (a .downward) (a .few) i j one-known other-known one-partner before
+
+    pub other-upper : upper tb j ≡ highest tb i
+    other-upper = upper-later tb (a .tree) (a .downward) (a .few) j i other-known one-known other-partner before
 
   -- and that of one
   module _ (k i : ℕ) (h : k < length (passes tb)) (is : planPass tb k ≡ single i) where
@@ -83,18 +89,23 @@ module _ (tb : Table) (a : Accepted tb) where
     unfolding printed
     single-printed = rw single-partner refl
 
+    pub single-upper : upper tb i ≡ FFFF
+    unfolding upper
+    single-upper = rw single-partner refl
+
 -- ---- as it is read
 
--- the plan of a table stands in the work cells, in `count` passes
-pub record Plan (tb : Table) (ps tree bottoms work : List ℕ) (count : ℕ) : Type 0 where
+-- the plan of a table stands in the work cells, in `count` passes, and its jobs' highest layouts beside it
+pub record Plan (tb : Table) (ps tree highests bottoms work : List ℕ) (count : ℕ) : Type 0 where
   pub parents-are : tb .parents ≡ ps
   pub bottoms-are : tb .bottoms ≡ bottoms
   pub table : Accepted tb
   pub spanned : Spanned ps tree
+  pub high : Highests tb highests
   pub plan : PlanIn tb work
   pub count-is : count ≡ length (passes tb)
 
-module _ (tb : Table) (ps tree bottoms work : List ℕ) (count : ℕ) (p : Plan tb ps tree bottoms work count) where
+module _ (tb : Table) (ps tree highests bottoms work : List ℕ) (count : ℕ) (p : Plan tb ps tree highests bottoms work count) where
   -- as many cells as bottoms are as many as jobs
   pub jobs-are : length bottoms ≡ jobs tb
   jobs-are = ap length (sym (p .bottoms-are)) ∙ p .table .bottoms-length

@@ -23,7 +23,7 @@ pub enum Pass {
     Single(JobNumber),
 }
 
-// Makes the passes of an accepted table in the work cells, and answers what they come to. The tops and marks are used up.
+// Makes the passes of an accepted table in the work cells, and answers what they come to. The marks are used up, and the highest layouts stand in the place of the tops.
 pub fn make_passes(
     parents: &[u16],
     tree: &[u16; TREE],
@@ -35,7 +35,7 @@ pub fn make_passes(
     requires { ⌜ Accepted (tableOf (now parents) (now tops) (now bottoms) (now marks)) ⌝ }
     requires { ⌜ Spanned (now parents) (now tree) ⌝ }
     requires { ⌜ Roomy (length (now tops)) (now work) ⌝ }
-    ensures { λ r. ⌜ Made (tableOf (now (parents .entry)) (now (tops .entry)) (now (bottoms .entry)) (now (marks .entry))) (now (parents .entry)) (now (tree .entry)) (now (bottoms .entry)) (now (work .entry)) r (now (work .exit)) ⌝ }
+    ensures { λ r. ⌜ Made (tableOf (now (parents .entry)) (now (tops .entry)) (now (bottoms .entry)) (now (marks .entry))) (now (parents .entry)) (now (tree .entry)) (now (bottoms .entry)) (now (work .entry)) r (now (tops .exit)) (now (work .exit)) ⌝ }
 {
     let count = tops.len();
     prepare::prepare(parents, tree, tops, bottoms, marks, work);

@@ -155,7 +155,7 @@ module _ (bytes : List ℕ) (tb : Table) (is : readTable bytes ≡ read tb) wher
       table-accepted tb (well-formed (tb .parents) tree-right (s .small)) (s .few) (sym (s .bottoms-length)) (sym (s .marks-length)) jobs-right
 
   -- and *Plan* accepts it, with enough lent
-  pub read-accepted : (partners printed work : ℕ) → jobs tb ≤ partners → jobs tb ≤ printed → workCells ≤ work → planVerdict tb partners printed work ≡ accepted
-  read-accepted partners printed work p l w =
+  pub read-accepted : (partners uppers printed work : ℕ) → jobs tb ≤ partners → jobs tb ≤ uppers → jobs tb ≤ printed → workCells ≤ work → planVerdict tb partners uppers printed work ≡ accepted
+  read-accepted partners uppers printed work p u l w =
       let s = read-sound .0 in
-      right-layouts tb partners printed work (record { bottoms-length = s .bottoms-length; marks-length = s .marks-length; partners-room = p; printed-room = l; work-room = w }) (s .few) (within-limit (tb .parents) (s .small) ∙ tree-right) ∙ jobs-right
+      right-layouts tb partners uppers printed work (record { bottoms-length = s .bottoms-length; marks-length = s .marks-length; partners-room = p; uppers-room = u; printed-room = l; work-room = w }) (s .few) (within-limit (tb .parents) (s .small) ∙ tree-right) ∙ jobs-right

@@ -18,7 +18,7 @@ ghost use Rattle.passes.specs.Making.{Roomy};
 ghost use Rattle.run.specs.Whole.{ArraysFor, fewJobs, someJobs};
 
 // Bytes of output that the whole run needs.
-pub const OUTPUT: usize = 32768;
+pub const OUTPUT: usize = 40960;
 
 // A table of few bytes is run in arrays for few jobs, so that little memory is touched: FEW jobs take FEW_BYTES bytes, so a table that has no more bytes has no
 // more jobs.
@@ -41,7 +41,7 @@ fn print_refusal(output: &mut [u8], refusal: Refusal) -> usize
     length
 }
 
-// Plans a table that was read and settled, and prints the plan. The tops and marks are used up.
+// Plans a table that was read and settled, and prints the plan. The tops and marks are used up: making the passes puts the highest layouts in the place of the tops.
 fn print_table(
     parents: &[u16],
     tree: &[u16; TREE],
@@ -58,7 +58,7 @@ fn print_table(
     ensures { λ r. ⌜ Printed (planBytes (tableOf (now (parents .entry)) (now (tops .entry)) (now (bottoms .entry)) (now (marks .entry)))) (now (output .entry)) r (now (output .exit)) ⌝ }
 {
     let totals = passes::make_passes(parents, tree, tops, bottoms, marks, work);
-    print::print_plan(parents, tree, bottoms, work, totals, output)
+    print::print_plan(parents, tree, tops, bottoms, work, totals, output)
 }
 
 // The whole run in lent arrays that have room for the jobs of the input.
@@ -155,7 +155,7 @@ fn run_many(input: &[u8], output: &mut [u8]) -> usize
 }
 
 // Reads a table's bytes, plans its passes and prints the plan, or the refusal; the answer is how many bytes were printed. Output below
-// 32,768 bytes is refusal 8: the answer is 0, and nothing is written.
+// 40,960 bytes is refusal 8: the answer is 0, and nothing is written.
 #[no_mangle]
 pub extern "C" fn murdzeki_plan(input: &[u8], output: &mut [u8]) -> usize
     ensures { λ r. ⌜ RunOutcome (now (input .entry)) (now (output .entry)) r (now (output .exit)) ⌝ }

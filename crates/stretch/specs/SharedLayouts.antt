@@ -1,22 +1,30 @@
--- For two jobs' paths written from top to bottom the shared stretch holds exactly the shared layouts (document 01, "Shared stretch").
-use Prim.Native.Nat.{ℕ, suc, pred, _+_, _<_}
+-- For two jobs' paths written from top to bottom the shared stretch holds exactly the shared layouts other than 0, from the highest to the deepest (document 01, "Shared
+-- stretch", as 2026-02 changed it).
+use Prim.Native.Nat.{ℕ, suc, pred, _<_}
 use mathlib.Core.Path.{_≡_, refl, sym, ap, _∙_, subst}
 use mathlib.Core.Logic.{⊎-elim}
-use mathlib.Core.Bool.{true, _&&_, and-eq-true-iff}
-use mathlib.Core.List.{List, [], _∷_, _++_, reverse, reverse-cons, List·Memᴰ as Mem, List·Memᴰ·head as here, List·Memᴰ·tail as there, Memᴰ·append-left, Memᴰ·append-right, List·Memᴰ·append-cases, List·Memᴰ·cases-cons, List·Memᴰ·eq-of-singleton}
+use mathlib.Core.Bool.{_&&_, and-eq-true-iff}
+use mathlib.Core.List.{List, [], _∷_, _++_, headD, reverse, reverse-cons, List·Memᴰ as Mem, List·Memᴰ·head as here, List·Memᴰ·tail as there, List·Memᴰ·not-nil, List·Memᴰ·cases-cons}
 use native.Mathlib.Omega.{arith}
-use native.Mathlib.Decide.{decLt}
-use lib.ListN.{length, getD, length-append, List·getD-append}
+use native.Mathlib.Decide.{decLt, ℕ-discrete}
+use lib.ListN.{length, getD, take, length-append, List·getD-append}
 use lib.Seq.{getD-append-seam}
-use Rattle.model.specs.Lists.{elem}
-use Rattle.model.specs.Jobs.{Table, path, pathFrom}
-use Rattle.model.specs.Stretch.{stretchOf, numbersOf}
-use Rattle.laws.specs.Lists.{elem-mem, mem-elem, getD-mem}
+use borrow.Author.Tests.{eq-eqb, ne-eqb}
+use Rattle.model.specs.Lists.{elem, lastD, AllPairs, without}
+use Rattle.model.specs.Tree.{FFFF}
+use Rattle.model.specs.Jobs.{Table, bottom, path, pathFrom, ownPath, sharedLayouts, highestShared, deepestShared}
+use Rattle.model.specs.Stretch.{leading, stretchOf, numbersOf, dropped, kept}
+use Rattle.laws.specs.Lists.{all-mem, elem-mem, mem-elem, getD-mem, sorted-same}
+use Rattle.laws.specs.Without.{without-none, without-drop}
+use Rattle.laws.specs.Reversed.{mem-reverse, reverse-mem, reverse-pairwise, reverse-head, reverse-last, reverse-without}
+use Rattle.laws.specs.Places.{take-pairwise}
 use Rattle.laws.specs.Booleans.{same-test}
 use Rattle.tree_laws.specs.WellFormed.{Tree}
 use Rattle.tree_laws.specs.Ancestors.{AncestorOrSelf, self, up}
 use Rattle.tree_laws.specs.Paths.{path-one, path-up}
-use Rattle.tree_laws.specs.Sharing.{Downward}
+use Rattle.tree_laws.specs.Sharing.{Downward, own, own-none}
+use Rattle.tree_laws.specs.Shared.{path-falls, own-falls, shared-falls, shared-mem, mem-shared}
+use Rattle.stretch.specs.StretchLaws.{stretch-cases}
 use Rattle.stretch.specs.StretchPaths.{Stands, Descending, shared-in-stretch, stretch-in-both}
 
 -- a path from top to bottom that ends at b
@@ -81,18 +89,6 @@ module _ (ps : List ℕ) (t : Tree ps) where
 
 -- ---- members and places
 
-reverse-mem : {x : ℕ} (l : List ℕ) → Mem x l → Mem x (reverse l)
-reverse-mem [] m = m
-reverse-mem {x} (y ∷ l) m =
-    rw (reverse-cons y l)
-    (⊎-elim (λ (e : x ≡ y). Memᴰ·append-right (reverse l) (here e)) (λ (n : Mem x l). Memᴰ·append-left (y ∷ []) (reverse-mem l n)) (List·Memᴰ·cases-cons m))
-
-mem-reverse : {x : ℕ} (l : List ℕ) → Mem x (reverse l) → Mem x l
-mem-reverse [] m = m
-mem-reverse {x} (y ∷ l) m =
-    let n : Mem x (reverse l ++ y ∷ []) = rw (reverse-cons y l) at m in
-    ⊎-elim (λ (a : Mem x (reverse l)). there (mem-reverse l a)) (λ (b : Mem x (y ∷ [])). here (List·Memᴰ·eq-of-singleton b)) (List·Memᴰ·append-cases (reverse l) n)
-
 mem-stands : {x : ℕ} {l : List ℕ} → Mem x l → Stands x l
 mem-stands (here e) = record { place = 0; within = omega arith; here = sym e }
 mem-stands (there m) = let s = mem-stands m in record { place = suc (s .place); within = omega (arith, s .within); here = s .here }
@@ -100,29 +96,86 @@ mem-stands (there m) = let s = mem-stands m in record { place = suc (s .place); 
 stands-mem : {x : ℕ} {l : List ℕ} → Stands x l → Mem x l
 stands-mem {x} {l} s = subst (λ (y : ℕ). Mem y l) (s .here) (getD-mem l (s .place) 0 (s .within))
 
+-- ---- a leading 0
+
+-- numbers that rise lose every 0 with a leading one
+kept-rising : (xs : List ℕ) → AllPairs (λ (x y : ℕ). x < y) xs → kept xs ≡ without 0 xs
+unfolding dropped
+kept-rising [] r = sym (without-none 0 [] (λ x m. absurd (List·Memᴰ·not-nil m)))
+kept-rising (x ∷ xs) r = elim (ℕ-discrete x 0) [
+  | yes e ↦ rw (eq-eqb x 0 e, e, without-drop 0 xs) (sym (without-none 0 xs (λ y m z. omega (arith, all-mem (λ (y : ℕ). x < y) (r .0) m))))
+  | no e ↦ rw (ne-eqb x 0 e) (sym (without-none 0 (x ∷ xs) (λ y m z. ⊎-elim (λ (same : y ≡ x). e (sym same ∙ z)) (λ n. omega (arith, all-mem (λ (y : ℕ). x < y) (r .0) n)) (List·Memᴰ·cases-cons m))))
+]
+
 -- ---- the law
 
-module _ (tb : Table) (t : Tree (tb .parents)) (i j : ℕ) (down-i : Downward tb i) (down-j : Downward tb j) where
-  -- the shared stretch of the two paths, each written from top to bottom
-  abbrev pub stretchOfPaths : List ℕ
-  stretchOfPaths =
-      numbersOf (stretchOf (reverse (path tb i)) (reverse (path tb j))) (reverse (path tb i)) (reverse (path tb j))
+-- a job's path, written from top to bottom
+abbrev pub pathDown : Table → ℕ → List ℕ
+pathDown tb j = reverse (path tb j)
 
-  -- a layout is in the stretch exactly if it is on both paths
-  pub shared-layouts : (x : ℕ) → elem x stretchOfPaths ≡ (elem x (path tb i) && elem x (path tb j))
-  shared-layouts x = same-test (elem x stretchOfPaths) (elem x (path tb i) && elem x (path tb j)) in-both in-stretch
-    where
-      along : Descending (λ (y : ℕ). getD (tb .parents) y 0) (reverse (path tb i)) × Descending (λ (y : ℕ). getD (tb .parents) y 0) (reverse (path tb j))
-      along = unfold path in (descent (tb .parents) t down-i .descending, descent (tb .parents) t down-j .descending)
+-- the shared stretch of the paths of two jobs
+abbrev pub stretchOfPaths : Table → ℕ → ℕ → List ℕ
+stretchOfPaths tb i j = numbersOf (stretchOf (kept (pathDown tb i)) (kept (pathDown tb j))) (kept (pathDown tb i)) (kept (pathDown tb j))
 
-      in-both : elem x stretchOfPaths ≡ true → (elem x (path tb i) && elem x (path tb j)) ≡ true
-      in-both e =
-          let both = stretch-in-both (reverse (path tb i)) (reverse (path tb j)) x (mem-stands (elem-mem x stretchOfPaths e)) in
-          and-eq-true-iff (elem x (path tb i)) (elem x (path tb j)) .1 ((mem-elem (mem-reverse (path tb i) (stands-mem (both .0)))), (mem-elem (mem-reverse (path tb j) (stands-mem (both .1)))))
+module _ (tb : Table) (t : Tree (tb .parents)) where
+  -- a path loses layout 0, and with it all that no pair prints on
+  kept-path : (j : ℕ) → Downward tb j → kept (pathDown tb j) ≡ reverse (ownPath tb j)
+  unfolding ownPath path
+  kept-path j down = kept-rising (pathDown tb j) (reverse-pairwise (λ (x y : ℕ). y < x) (path tb j) (path-falls (tb .parents) t down)) ∙ reverse-without 0 (path tb j)
 
-      in-stretch : (elem x (path tb i) && elem x (path tb j)) ≡ true → elem x stretchOfPaths ≡ true
-      in-stretch e =
-          let both = and-eq-true-iff (elem x (path tb i)) (elem x (path tb j)) .0 e in
-          mem-elem (stands-mem (shared-in-stretch (λ (y : ℕ). getD (tb .parents) y 0) (reverse (path tb i)) (reverse (path tb j)) (along .0) (along .1) x
-          (mem-stands (reverse-mem (path tb i) (elem-mem x (path tb i) (both .0))))
-          (mem-stands (reverse-mem (path tb j) (elem-mem x (path tb j) (both .1))))))
+  own-descends : (j : ℕ) → Downward tb j → Descending (λ (y : ℕ). getD (tb .parents) y 0) (reverse (ownPath tb j))
+  own-descends j down = elim (ℕ-discrete (bottom tb j) 0) [
+    | yes none ↦ rw (own-none tb t j down none) (record { next = λ k h. absurd (omega arith); rising = λ k h. absurd (omega arith) })
+    | no some ↦ let o = own tb t j down (omega arith) in rw (o .path-is) (descent (tb .parents) t (o .above) .descending)
+  ]
+
+  module _ (i j : ℕ) (down-i : Downward tb i) (down-j : Downward tb j) where
+    stretch-own : stretchOfPaths tb i j ≡ numbersOf (stretchOf (reverse (ownPath tb i)) (reverse (ownPath tb j))) (reverse (ownPath tb i)) (reverse (ownPath tb j))
+    stretch-own = rw (kept-path i down-i, kept-path j down-j) refl
+
+    in-both : (x : ℕ) → Mem x (stretchOfPaths tb i j) → Mem x (ownPath tb i) × Mem x (ownPath tb j)
+    in-both x m =
+        let both = stretch-in-both (reverse (ownPath tb i)) (reverse (ownPath tb j)) x (mem-stands (rw stretch-own at m)) in
+        (reverse-mem (ownPath tb i) (stands-mem (both .0)), reverse-mem (ownPath tb j) (stands-mem (both .1)))
+
+    in-stretch : (x : ℕ) → Mem x (ownPath tb i) → Mem x (ownPath tb j) → Mem x (stretchOfPaths tb i j)
+    in-stretch x m n =
+        rw stretch-own
+        (stands-mem (shared-in-stretch (λ (y : ℕ). getD (tb .parents) y 0) (reverse (ownPath tb i)) (reverse (ownPath tb j)) (own-descends i down-i) (own-descends j down-j) x
+        (mem-stands (mem-reverse (ownPath tb i) m))
+        (mem-stands (mem-reverse (ownPath tb j) n))))
+
+    -- a layout is in the stretch exactly if it is on both paths and is not layout 0
+    pub shared-layouts : (x : ℕ) → elem x (stretchOfPaths tb i j) ≡ (elem x (ownPath tb i) && elem x (ownPath tb j))
+    shared-layouts x =
+        same-test (elem x (stretchOfPaths tb i j)) (elem x (ownPath tb i) && elem x (ownPath tb j))
+        (λ e. let both = in-both x (elem-mem x (stretchOfPaths tb i j) e) in and-eq-true-iff (elem x (ownPath tb i)) (elem x (ownPath tb j)) .1 (mem-elem (both .0), mem-elem (both .1)))
+        (λ e. let both = and-eq-true-iff (elem x (ownPath tb i)) (elem x (ownPath tb j)) .0 e in mem-elem (in-stretch x (elem-mem x (ownPath tb i) (both .0)) (elem-mem x (ownPath tb j) (both .1))))
+
+    -- it is the shared layouts, from the highest down
+    pub stretch-shared : stretchOfPaths tb i j ≡ reverse (sharedLayouts tb i j)
+    stretch-shared =
+        sorted-same (λ (x y : ℕ). x < y) (λ x y p q. omega (arith, p, q)) (stretchOfPaths tb i j) (reverse (sharedLayouts tb i j)) rising
+        (reverse-pairwise (λ (x y : ℕ). y < x) (sharedLayouts tb i j) (shared-falls tb t i j down-i))
+        (λ x m. let both = in-both x m in mem-reverse (sharedLayouts tb i j) (mem-shared tb i j (both .0) (both .1)))
+        (λ x m. let both = shared-mem tb i j (reverse-mem (sharedLayouts tb i j) m) in in-stretch x (both .0) (both .1))
+      where
+        own-rises : (j : ℕ) → Downward tb j → (n : ℕ) → AllPairs (λ (x y : ℕ). x < y) (take n (reverse (ownPath tb j)))
+        own-rises j down n = take-pairwise (λ (x y : ℕ). x < y) n (reverse (ownPath tb j)) (reverse-pairwise (λ (x y : ℕ). y < x) (ownPath tb j) (own-falls tb t j down))
+
+        rising : AllPairs (λ (x y : ℕ). x < y) (stretchOfPaths tb i j)
+        rising =
+            rw stretch-own
+            (stretch-cases (λ s. AllPairs (λ (x y : ℕ). x < y) (numbersOf s (reverse (ownPath tb i)) (reverse (ownPath tb j)))) (reverse (ownPath tb i)) (reverse (ownPath tb j))
+            (own-rises i down-i (leading (reverse (ownPath tb i)) (reverse (ownPath tb j))))
+            (own-rises j down-j (leading (reverse (ownPath tb j)) (reverse (ownPath tb i))))
+            (own-rises i down-i 0))
+
+    -- so it begins at the highest and ends at the deepest
+    pub stretch-begins : headD (stretchOfPaths tb i j) FFFF ≡ highestShared tb i j
+    unfolding highestShared
+    stretch-begins = ap (λ (l : List ℕ). headD l FFFF) stretch-shared ∙ reverse-head (sharedLayouts tb i j) FFFF
+
+    pub stretch-ends : lastD (stretchOfPaths tb i j) FFFF ≡ deepestShared tb i j
+    unfolding deepestShared
+    stretch-ends = ap (λ (l : List ℕ). lastD l FFFF) stretch-shared ∙ reverse-last (sharedLayouts tb i j) FFFF

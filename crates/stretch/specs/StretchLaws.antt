@@ -1,5 +1,5 @@
 -- Laws of the shared stretch: a place is the first, an agreement the longest, and the stretch fits the list that it begins and agrees with
--- the other.
+-- the other; and the stretch of two lists as they are.
 use Prim.Native.Nat.{ℕ, zero, suc, _+_, _≤_, _<_, min, zero-le, suc-le-suc}
 use mathlib.Core.Path.{_≡_, refl, sym, ap, _∙_, subst}
 use mathlib.Core.Logic.{_⊎_, inl, inr, ⊎-elim}
@@ -11,7 +11,8 @@ use lib.ListN.{length, getD, take, drop, drop-of-length-le, length-take, length-
 use lib.Seq.{getD-drop, getD-take, drop-cons, length-take-le}
 use lib.Dec.{ltb, eqb}
 use borrow.Author.Tests.{eqb-true, eqb-false, eq-eqb, ne-eqb, lt-ltb, ltb-true, ltb-false}
-use Rattle.model.specs.Stretch.{agreement, startsIn, leading, Stretch, ofFirst, ofSecond, stretchOf}
+use denote.Ref.{RefT, ptr, now}
+use Rattle.model.specs.Stretch.{agreement, startsIn, leading, Stretch, ofFirst, ofSecond, stretchOf, begun, numbersOf}
 use Rattle.model.specs.Lists.{indexOf}
 use Rattle.laws.specs.Places.{index-le, index-stands}
 
@@ -140,3 +141,8 @@ stretch-cases P xs ys first second none = by (startsIn xs ys) (startsIn ys xs)
     by true b = first
     by false true = second
     by false false = none
+
+-- what is given back holds the stretch of two lists as they are, with no 0 dropped, and is borrowed from the start of the one that it begins
+pub record StretchGiven (first second given : RefT (List ℕ)) : Type 0 where
+  pub holds : now given ≡ numbersOf (stretchOf (now first) (now second)) (now first) (now second)
+  pub borrowed : ptr given ≡ begun (stretchOf (now first) (now second)) (ptr first) (ptr second)

@@ -1,12 +1,37 @@
-// The shared stretch of two lists of layout numbers (document 01, "What each operation turns away"), handed back as a part of the list that it begins.
+// The shared stretch of two lists of layout numbers (document 01, "What each operation turns away", as 2026-02 changed it), handed back as a part of the list that it
+// begins.
 use model::LayoutNumber;
 ghost use mathlib.Core.Path.{_≡_};
-ghost use Rattle.model.specs.Stretch.{agreement, leading, StretchOutcome};
+ghost use Rattle.model.specs.Stretch.{agreement, leading, dropped, StretchOutcome};
 ghost use Rattle.model.specs.Lists.{indexOf};
+ghost use Rattle.stretch.specs.StretchLaws.{StretchGiven};
 
-// The shared stretch: a leading part of one of the two lists.
+// The shared stretch: a leading part of one of the two lists, after one leading 0 is dropped from each that begins with it.
 pub fn shared_stretch<'a>(first: &'a [u16], second: &'a [u16]) -> &'a [u16]
     ensures { λ r. ⌜ StretchOutcome (first .entry) (second .entry) r ⌝ }
+{
+    let first_dropped = dropped(first);
+    let second_dropped = dropped(second);
+    stretch_of(&first[first_dropped..], &second[second_dropped..])
+}
+
+// How many cells are dropped from a list: one, where it begins with layout 0.
+fn dropped(list: &[u16]) -> usize
+    ensures { λ r. ⌜ r ≡ dropped (now (list .entry)) ⌝ }
+{
+    if list.len() == 0 {
+        return 0;
+    }
+    let head = list[0];
+    if LayoutNumber(head).equals(LayoutNumber(0)) {
+        return 1;
+    }
+    0
+}
+
+// The stretch of two lists as they are.
+fn stretch_of<'a>(first: &'a [u16], second: &'a [u16]) -> &'a [u16]
+    ensures { λ r. ⌜ StretchGiven (first .entry) (second .entry) r ⌝ }
 {
     let count = leading(first, second);
     if 0 < count {

@@ -9,7 +9,7 @@ use native.Mathlib.Omega.{arith}
 use lib.ListN.{getD}
 use Rattle.model.specs.Lists.{elem, AllPairs}
 use Rattle.model.specs.Tree.{FFFF, depth}
-use Rattle.model.specs.Jobs.{Table, bottom, pathFrom, ownPath, shares, deepestShared}
+use Rattle.model.specs.Jobs.{Table, bottom, pathFrom, ownPath, shares, sharedLayouts, deepestShared}
 use Rattle.laws.specs.Lists.{mem-all, mem-elem, elem-mem, any-mem, select-mem, mem-select, select-pairwise, head-mem, head-first}
 use Rattle.tree_laws.specs.WellFormed.{Tree}
 use Rattle.tree_laws.specs.Ancestors.{AncestorOrSelf, self, up, ancestor-trans, ancestor-linear}
@@ -25,7 +25,7 @@ module _ (ps : List ℕ) (t : Tree ps) where
 module _ (tb : Table) (t : Tree (tb .parents)) where
   -- if the jobs share, it lies on both paths
   pub deepest-on : (i j : ℕ) → Downward tb i → Downward tb j → shares tb i j ≡ true → On tb (deepestShared tb i j) i × On tb (deepestShared tb i j) j
-  unfolding shares deepestShared
+  unfolding shares deepestShared sharedLayouts
   deepest-on i j a b e =
       let r = any-mem (λ (x : ℕ). elem x (ownPath tb j)) (ownPath tb i) e in
       let m = head-mem FFFF (mem-select (λ (x : ℕ). elem x (ownPath tb j)) (r .1 .0) (r .1 .1)) in
@@ -34,7 +34,7 @@ module _ (tb : Table) (t : Tree (tb .parents)) where
 
   -- every layout on both paths is an ancestor of it: of those it is the first that the path of i has
   pub deepest-below : {x : ℕ} (i j : ℕ) → On tb x i → On tb x j → AncestorOrSelf (tb .parents) x (deepestShared tb i j)
-  unfolding deepestShared
+  unfolding deepestShared sharedLayouts
   deepest-below {x} i j p q =
       let ps : List ℕ = tb .parents in
       let both = mem-select (λ (x : ℕ). elem x (ownPath tb j)) (elem-mem x (ownPath tb i) (on-own tb t i p)) (on-own tb t j q) in

@@ -8,3 +8,4 @@ pub mod Paths
 pub mod Branches
 pub mod Sharing
 pub mod Deepest
+pub mod Shared

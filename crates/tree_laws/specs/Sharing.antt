@@ -57,7 +57,7 @@ module _ (tb : Table) (t : Tree (tb .parents)) (j : ℕ) (down : Downward tb j) 
   ]
 
   -- a job whose bottom is layout 0 has nothing on its own path
-  own-none : bottom tb j ≡ 0 → ownPath tb j ≡ []
+  pub own-none : bottom tb j ≡ 0 → ownPath tb j ≡ []
   unfolding ownPath path
   own-none e =
       let top-zero : top tb j ≡ 0 = omega (arith, ancestor-le (tb .parents) t down) in

@@ -149,10 +149,12 @@ fn named_edits(words: &BTreeSet<&str>) -> BTreeSet<(String, String)> {
 }
 
 /// The lines of the examples that the man page shows.
-fn man_page_examples() -> [String; 3] {
+fn man_page_examples() -> [String; 5] {
     [
         "examples/bakehouse.table",
         "examples/bakehouse.plan",
+        "examples/both-ends.table",
+        "examples/both-ends.plan",
         "examples/exchanged.plan",
     ]
     .map(|path| format!(".Bd -literal -offset indent\n{}.Ed\n", text(path)))

@@ -6,7 +6,7 @@ use tests::browser::Browser;
 use tests::examples::{named, BAKEHOUSE_BYTES};
 use tests::made::tables::{table, table_of_size};
 use tests::page_checks::driving::{drive, print};
-use tests::page_checks::{bakehouse, bare_sheet};
+use tests::page_checks::{bakehouse, bare_sheet, both_ends};
 use tests::page_checks::{holds_turns, page_of, read_page, words_of_turns};
 use tests::picture_checks::size_to_draw;
 use tests::reference::table::table_lines;
@@ -21,6 +21,10 @@ fn main() -> ExitCode {
     report.listed("the turns of the bare sheet", [()], |()| {
         let bytes = table_lines(&named("the bare sheet")?.table).concat();
         tells(&bytes, &bare_sheet::TURNS)
+    });
+    report.listed("the turns of both ends", [()], |()| {
+        let bytes = table_lines(&named("both ends")?.table).concat();
+        tells(&bytes, &both_ends::TURNS)
     });
     report.made("legible tables", 300, |generator| {
         let table = table_of_size(size_to_draw(generator), generator);

@@ -10,7 +10,8 @@ use tests::made::tables::{table, table_of_size, Size};
 use tests::made::Generator;
 use tests::picture::answer::{planned, planned_wrongly, product_answer, Answer};
 use tests::picture::{is_legible, picture, planned_picture, Options, JOBS_DRAWN, LAYOUTS_DRAWN};
-use tests::picture_checks::{check_picture, check_plan, size_to_draw, Expected};
+use tests::picture_checks::{check_picture, check_plan, size_to_draw, Ends, Expected};
+use tests::plan_checks::Planner;
 use tests::reference::table::{read, table_lines};
 use tests::reference::{Table, JOB_LIMIT, LAYOUT_LIMIT};
 use tests::report::{same, Outcome, Report};
@@ -84,14 +85,14 @@ fn examples() -> impl Iterator<Item = Example> {
 struct Mistake {
     planner: &'static str,
     order: &'static [usize],
-    passes: &'static [(&'static [usize], Option<usize>)],
+    passes: &'static [(&'static [usize], Ends)],
 }
 
 /// Two branches below layout 1, by the shallowest highest layouts: it loses a pair.
 const SHALLOWEST: Mistake = Mistake {
     planner: "the shallowest first",
     order: &[0, 1, 2, 3],
-    passes: &[(&[0, 1], Some(1)), (&[2], None), (&[3], None)],
+    passes: &[(&[0, 1], Some((1, 1))), (&[2], None), (&[3], None)],
 };
 
 /// Two jobs 0-1, by a loop that ends at count minus one: they run alone.
@@ -105,10 +106,11 @@ const fn stored(file: &'static str, table: &'static str, shown: Shown) -> Stored
     Stored { file, table, shown }
 }
 
-const STORED: [Stored; 11] = [
+const STORED: [Stored; 12] = [
     stored("examples/bakehouse", "bakehouse", Shown::Product),
     stored("examples/bakehouse-cut-3", "bakehouse", Shown::Cut(3)),
     stored("examples/bare-sheet", "bare-sheet", Shown::Product),
+    stored("examples/both-ends", "both-ends", Shown::Product),
     stored("examples/exchanged", "exchanged", Shown::Product),
     stored("examples/first-partner", "first-partner", Shown::Product),
     stored("examples/no-jobs", "no-jobs", Shown::Product),
@@ -164,9 +166,7 @@ impl Mistake {
         Ok(Expected {
             table: read(bytes).map_err(|refusal| format!("{refusal:?}"))?,
             order: self.order.to_vec(),
-            passes: passes
-                .map(|(jobs, layout)| (jobs.to_vec(), *layout))
-                .collect(),
+            passes: passes.map(|(jobs, ends)| (jobs.to_vec(), *ends)).collect(),
         })
     }
 }
@@ -258,11 +258,11 @@ fn every_cut(table: &Table) -> Outcome {
 
 /// A plan that the second implementation does not have is not drawn.
 fn not_drawn(planner: &WrongPlanner) -> Outcome {
-    let call = |table: &Table, partners: &mut [u16], layouts: &mut [u16], work: &mut [u16]| {
-        planner.call(table, partners, layouts, work)
+    let call: Planner = &|table, partners, uppers, printed, work| {
+        planner.call(table, partners, uppers, printed, work)
     };
     let table = named(planner.fails)?.table;
-    same(planner.name, planned(table, &call).is_err(), true)
+    same(planner.name, planned(table, call).is_err(), true)
 }
 
 /// Of the wrong planners, some pair jobs that do not share or that are solo, and one refuses: none of

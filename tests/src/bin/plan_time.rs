@@ -29,12 +29,12 @@ fn times(shape: Shape, reach: Reach) -> String {
 
 fn median_time(table: &Table) -> Duration {
     let mut partners = vec![0; table.jobs()];
-    let mut layouts = partners.clone();
+    let (mut uppers, mut printed) = (partners.clone(), partners.clone());
     let mut work = vec![0; WORK_CELLS];
     let mut times: Vec<Duration> = (0..CALLS)
         .map(|_| {
             let start = Instant::now();
-            let answer = library::plan(table, &mut partners, &mut layouts, &mut work);
+            let answer = library::plan(table, &mut partners, &mut uppers, &mut printed, &mut work);
             let time = start.elapsed();
             answer.expect("a whole table is planned");
             time

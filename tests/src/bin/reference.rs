@@ -6,16 +6,17 @@ use std::fs;
 use std::path::PathBuf;
 use std::process::ExitCode;
 use tests::bare_sheet::Search;
+use tests::both_ends::{self, downward};
 use tests::by_hand;
 use tests::examples::{
-    bakehouse, marked, named, telling, Said, BAKEHOUSE_BYTES, BAKEHOUSE_LOOKUPS, BAKEHOUSE_ORDER,
-    BAKEHOUSE_PLAN, READINGS,
+    bakehouse, marked, named, telling, Begins, Said, Stretch, BAKEHOUSE_BYTES, BAKEHOUSE_LOOKUPS,
+    BAKEHOUSE_ORDER, BAKEHOUSE_PLAN, PRINTINGS, READINGS, STRETCHES,
 };
 use tests::made::tables::{table, table_of_size, Size};
 use tests::made::Generator;
-use tests::plan_checks::{check_example, small_tables};
+use tests::plan_checks::{check_example, small_tables, Planner};
 use tests::reference::paths::{depth_of_highest, highest, is_bare, own_paths, BARE_SHEET};
-use tests::reference::plan::{plan, plan_of, running_order, Plan, Room, Totals};
+use tests::reference::plan::{plan, plan_of, running_order, Plan, Results, Room, Totals};
 use tests::reference::rivals::{keeps_rules, most_before_cuts, pairs_before_cuts, pairs_of};
 use tests::reference::run::run;
 use tests::reference::stretch::shared_stretch;
@@ -23,7 +24,7 @@ use tests::reference::sweep::{plan_of_turns, turns, Event, Turn, Verdict};
 use tests::reference::table::{read, table_lines};
 use tests::reference::tree::{leaves_of_each, settled, Settled};
 use tests::reference::visits::{lookup_visits, slot_leaves, visits};
-use tests::reference::{Refusal, Table, WORK_CELLS};
+use tests::reference::{Refusal, Table, ABSENT, WORK_CELLS};
 use tests::report::{same, Outcome, Report};
 use tests::run_checks;
 use tests::wrong_planners::{wrong_planners, WrongPlanner};
@@ -41,10 +42,24 @@ fn main() -> ExitCode {
     report.listed("document 01's refusals", READINGS, |(bytes, refusal)| {
         same("refusal", read(bytes).err(), refusal)
     });
-    report.listed("document 01's stretches", STRETCHES, stretch_as_said);
+    report.listed("tables as printed", PRINTINGS, |(bytes, printed)| {
+        same("lines", run(bytes), printed.to_vec())
+    });
+    report.listed("stretches worked by hand", STRETCHES, |stretch| {
+        stretch_as_said(&stretch)
+    });
+    report.made("stretches of two paths", 3_000, |generator| {
+        stretches_of_paths(&table_of_size(medium_size(generator), generator))
+    });
     report.listed("visits of every span", spans(), visits_within_bound);
     report.listed("most pairs of every small table", small_tables(), |table| {
-        best_at_every_cut(&table, &searched_plan(&search, &table))
+        let plan = searched_plan(&search, &table);
+        both_ends::check(&table, plan.results())?;
+        best_at_every_cut(&table, &plan)
+    });
+    report.made("both ends of what pairs share", 3_000, |generator| {
+        let table = table(generator);
+        both_ends::check(&table, plan_of(&table).results())
     });
     report.made("most pairs at every cut", 20_000, |generator| {
         let table = table_for_search(generator);
@@ -81,22 +96,25 @@ fn main() -> ExitCode {
 fn reference_planner(
     table: &Table,
     partners: &mut [u16],
-    layouts: &mut [u16],
+    uppers: &mut [u16],
+    printed: &mut [u16],
     work: &mut [u16],
 ) -> Result<Totals, Refusal> {
     let room = Room {
         partners: partners.len(),
-        layouts: layouts.len(),
+        uppers: uppers.len(),
+        printed: printed.len(),
         work: work.len(),
     };
     let plan = plan(table, room)?;
     partners[..table.jobs()].copy_from_slice(&plan.partners);
-    layouts[..table.jobs()].copy_from_slice(&plan.layouts);
+    uppers[..table.jobs()].copy_from_slice(&plan.uppers);
+    printed[..table.jobs()].copy_from_slice(&plan.printed);
     work[..WORK_CELLS].fill(0);
     Ok(plan.totals)
 }
 
-/// All that 2026-01 says of the bakehouse table.
+/// All that 2026-01 and 2026-02 say of the bakehouse table.
 fn bakehouse_as_printed() -> Outcome {
     let table = bakehouse().table;
     same(
@@ -113,9 +131,10 @@ fn bakehouse_as_printed() -> Outcome {
 }
 
 /// The tables in `examples`, with their plans beside them.
-const EXAMPLE_FILES: [&str; 8] = [
+const EXAMPLE_FILES: [&str; 9] = [
     "bakehouse",
     "bare-sheet",
+    "both-ends",
     "exchanged",
     "first-partner",
     "no-jobs",
@@ -144,22 +163,35 @@ fn read_as_said(bytes: &[u8], said: &Said) -> Outcome {
     same("refusal", read(bytes).err(), refusal)
 }
 
-/// Two lists and their shared stretch.
-type Stretch = (&'static [u16], &'static [u16], &'static [u16]);
+/// The numbers, and the cell at which they start. Both lists stand in one block of cells, with a cell
+/// between them, so that the cell of the block tells the list too, also where the stretch is empty.
+fn stretch_as_said(said: &Stretch) -> Outcome {
+    let block = [said.first, &[ABSENT], said.second].concat();
+    let (first, rest) = block.split_at(said.first.len());
+    let second = &rest[1..];
+    let found = shared_stretch(first, second);
+    same("numbers", found, said.numbers)?;
+    let list = match said.begins {
+        Begins::First => first,
+        Begins::Second => second,
+    };
+    let cells = |part: &[u16]| (part.as_ptr() as usize - block.as_ptr() as usize) / 2;
+    same("cell", cells(found), cells(&list[said.from..]))
+}
 
-const STRETCHES: [Stretch; 8] = [
-    (&[1, 2, 3], &[1, 9, 1, 2, 3], &[1]),
-    (&[2, 3, 4], &[1, 2, 3], &[2, 3]),
-    (&[1, 2, 3], &[2, 3, 4], &[2, 3]),
-    (&[1, 2], &[2, 1], &[1]),
-    (&[1, 2], &[3, 4], &[]),
-    (&[], &[1, 2], &[]),
-    (&[1, 2], &[], &[]),
-    (&[7, 7], &[7, 7, 7], &[7, 7]),
-];
-
-fn stretch_as_said((first, second, expected): Stretch) -> Outcome {
-    same("stretch", shared_stretch(first, second), expected)
+/// Of the paths of any two jobs from top to bottom the stretch has exactly the shared layouts other
+/// than 0, in this order.
+fn stretches_of_paths(table: &Table) -> Outcome {
+    let jobs = 0..table.jobs();
+    let paths: Vec<Vec<u16>> = jobs.map(|job| downward(table, job)).collect();
+    for one in &paths {
+        for other in &paths {
+            let shared = |layout: &u16| *layout != BARE_SHEET && other.contains(layout);
+            let expected: Vec<u16> = one.iter().copied().filter(shared).collect();
+            same("stretch", shared_stretch(one, other), expected.as_slice())?;
+        }
+    }
+    Ok(())
 }
 
 /// Every span of slots of small segment trees, as width, first slot and first slot after it.
@@ -181,10 +213,10 @@ fn visits_within_bound((width, from, to): (usize, usize, usize)) -> Outcome {
     same("within the bound", within, true)
 }
 
-/// The plan of this implementation, searched for a pair on layout 0.
+/// The plan of this implementation, searched for layout 0.
 fn searched_plan(search: &Search, table: &Table) -> Plan {
     let plan = plan_of(table);
-    search.plan(table, &plan.partners, &plan.layouts);
+    search.plan(table, plan.results());
     plan
 }
 
@@ -303,14 +335,14 @@ fn takes(turn: &Turn, job: usize) -> bool {
 /// That the checks find a wrong planner out on its table, by the cell count alone where nothing else
 /// is wrong.
 fn caught(planner: &WrongPlanner) -> Outcome {
-    let call = |table: &Table, partners: &mut [u16], layouts: &mut [u16], work: &mut [u16]| {
-        planner.call(table, partners, layouts, work)
-    };
     let example = named(planner.fails)?;
     if planner.count_alone {
         wrong_in_count(planner, &example.table)?;
     }
-    match check_example(&call, &example) {
+    let call: Planner = &|table, partners, uppers, printed, work| {
+        planner.call(table, partners, uppers, printed, work)
+    };
+    match check_example(call, &example) {
         Err(_) => Ok(()),
         Ok(()) => Err(format!(
             "{} gets through on {}",
@@ -337,26 +369,41 @@ fn wrong_in_count(planner: &WrongPlanner, table: &Table) -> Outcome {
     )
 }
 
-/// The search finds a pair on layout 0 where there is one, in a plan's cells and in its lines.
+/// The search finds layout 0 at either end of what a pair shares where it is there, and only there: in
+/// the plans of wrong planners, in a plan's cells and in its lines.
 fn search_finds() -> Outcome {
-    let planner = wrong_planners()
-        .into_iter()
-        .find(|planner| planner.name == "pairs on layout 0")
-        .ok_or("no such planner")?;
-    let table = named(planner.fails)?.table;
-    let wrong = (planner.plan)(&table).map_err(|refusal| format!("refused: {refusal:?}"))?;
+    for planner in wrong_planners() {
+        if ["pairs on layout 0", "the upper end a top"].contains(&planner.name) {
+            let table = named(planner.fails)?.table;
+            let wrong =
+                (planner.plan)(&table).map_err(|refusal| format!("refused: {refusal:?}"))?;
+            let search = Search::default();
+            search.plan(&table, wrong.results());
+            same(planner.name, search.seen().found.is_some(), true)?;
+        }
+    }
+    for (upper, printed) in [(0, 0), (0, 1), (1, 0), (1, 1)] {
+        search_finds_ends(&named("layout 0 alone in common")?.table, upper, printed)?;
+    }
+    Ok(())
+}
+
+/// The search over two jobs in a pair with such ends.
+fn search_finds_ends(table: &Table, upper: u16, printed: u16) -> Outcome {
     let (in_cells, in_lines) = (Search::default(), Search::default());
-    in_cells.plan(&table, &wrong.partners, &wrong.layouts);
-    let input = table_lines(&table).concat();
-    in_lines.lines(&input, b"11000000010000\n1F0001000000000001\n");
-    for search in [in_cells, in_lines] {
-        let seen = search.seen();
-        same("found", seen.found.is_some(), true)?;
-        same(
-            "pairs and tops 0",
-            (seen.pairs, seen.tops_0, seen.bare_jobs),
-            (1, 2, 0),
-        )?;
+    let results = Results {
+        partners: &[1, 0],
+        uppers: &[upper; 2],
+        printed: &[printed; 2],
+    };
+    in_cells.plan(table, results);
+    let lines = format!("1100000001{upper:04X}{printed:04X}\n1F0001000000000001\n");
+    in_lines.lines(&table_lines(table).concat(), lines.as_bytes());
+    for seen in [in_cells.seen(), in_lines.seen()] {
+        let on_layout_0 = upper == BARE_SHEET || printed == BARE_SHEET;
+        same("found", seen.found.is_some(), on_layout_0)?;
+        let counts = (seen.pairs, seen.tops_0, seen.bare_jobs);
+        same("pairs, tops 0 and jobs 0-0", counts, (1, 2, 0))?;
     }
     Ok(())
 }

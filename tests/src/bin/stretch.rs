@@ -1,17 +1,21 @@
 //! *Shared stretch* of the proved library beside the reference (document 01, "What each operation
-//! turns away").
+//! turns away", as 2026-02 changed it).
 
 use std::process::ExitCode;
+use tests::examples::{Stretch, STRETCHES};
 use tests::lent::Lent;
 use tests::library;
 use tests::made::tables::{any_parents, path, Reach};
 use tests::made::Generator;
-use tests::reference::paths::walk;
+use tests::reference::paths::{walk, BARE_SHEET};
 use tests::reference::stretch::shared_stretch;
-use tests::report::{Outcome, Report};
+use tests::report::{same, Outcome, Report};
 
 fn main() -> ExitCode {
     let mut report = Report::new("stretch");
+    report.listed("stretches worked by hand", STRETCHES, |stretch| {
+        as_said(&stretch)
+    });
     let lists = small_lists();
     let pairs = lists
         .iter()
@@ -23,6 +27,14 @@ fn main() -> ExitCode {
         let (first, second) = (list(generator), list(generator));
         check(&first, &second, generator).map(|_| ())
     });
+    report.made("leading zeros", 100_000, |generator| {
+        let mut zeros = || vec![BARE_SHEET; generator.below(4)];
+        let (before_first, before_second) = (zeros(), zeros());
+        let first = [before_first, list(generator)].concat();
+        let second = [before_second, list(generator)].concat();
+        check(&first, &second, generator).map(|_| ())
+    });
+    report.made("one leading 0 more", 50_000, one_leading_0_more);
     report.made("parts of one list", 50_000, |generator| {
         let whole = list(generator);
         let (from, other) = (
@@ -38,6 +50,41 @@ fn main() -> ExitCode {
         check(&whole[from..], &whole[other..], generator).map(|_| ())
     });
     report.finish()
+}
+
+/// A call on two lists with all the room that it needs.
+fn numbers(first: &[u16], second: &[u16]) -> Vec<u16> {
+    let mut out = vec![0; first.len().max(second.len())];
+    let length = library::stretch(first, second, &mut out);
+    out.truncate(length);
+    out
+}
+
+fn as_said(said: &Stretch) -> Outcome {
+    let numbers = numbers(said.first, said.second);
+    same("numbers", numbers.as_slice(), said.numbers)?;
+    check(said.first, said.second, &mut Generator::new(0)).map(|_| ())
+}
+
+/// Lists that do not begin with 0 have the same stretch with a 0 before one of them or both.
+fn one_leading_0_more(generator: &mut Generator) -> Outcome {
+    let mut nonzero = || {
+        let mut list = list(generator);
+        let zeros = list.iter().take_while(|&&number| number == BARE_SHEET);
+        list.drain(..zeros.count());
+        list
+    };
+    let (first, second) = (nonzero(), nonzero());
+    let with_0 = |list: &[u16]| [&[BARE_SHEET], list].concat();
+    let expected = numbers(&first, &second);
+    for (one, other) in [
+        (with_0(&first), second.clone()),
+        (first.clone(), with_0(&second)),
+        (with_0(&first), with_0(&second)),
+    ] {
+        same("stretch", numbers(&one, &other), expected.clone())?;
+    }
+    Ok(())
 }
 
 /// One call beside the reference; the stretch is handed on.
@@ -60,11 +107,11 @@ fn check<'a>(
     Ok(expected)
 }
 
-/// Every list of at most four numbers out of three.
+/// Every list of at most five numbers out of three, 0 among them.
 fn small_lists() -> Vec<Vec<u16>> {
     let mut lists = vec![vec![]];
     let mut longest = lists.clone();
-    for _ in 0..4 {
+    for _ in 0..5 {
         longest = longest
             .iter()
             .flat_map(|list| [0, 1, 2].map(|number| [list.as_slice(), &[number]].concat()))
@@ -82,7 +129,8 @@ fn list(generator: &mut Generator) -> Vec<u16> {
         .collect()
 }
 
-/// For two paths written from top to bottom the stretch holds exactly the shared layouts.
+/// For two paths written from top to bottom the stretch holds exactly the shared layouts other than
+/// 0.
 fn paths_of_a_tree(generator: &mut Generator) -> Outcome {
     let most = if generator.one_in(50) { 1024 } else { 20 };
     let layouts = generator.between(1, most);
@@ -92,11 +140,8 @@ fn paths_of_a_tree(generator: &mut Generator) -> Outcome {
         made_path(&parents, generator),
     );
     let stretch = check(&first, &second, generator)?;
-    let shared: Vec<u16> = first
-        .iter()
-        .copied()
-        .filter(|layout| second.contains(layout))
-        .collect();
+    let is_shared = |layout: &u16| *layout != BARE_SHEET && second.contains(layout);
+    let shared: Vec<u16> = first.iter().copied().filter(is_shared).collect();
     if stretch == shared {
         return Ok(());
     }

@@ -111,9 +111,14 @@ fn lookup_facts(planned: &Planned, lookup: &Lookup) -> Vec<(&'static str, String
 
 fn pass_words(pass: &Pass) -> String {
     let Pass { number, opener, .. } = pass;
-    match pass.partner {
-        Some((other, layout)) => format!("{number}: jobs {opener} and {other} on layout {layout}"),
-        None => format!("{number}: job {opener} alone"),
+    let Some(partner) = pass.partner else {
+        return format!("{number}: job {opener} alone");
+    };
+    let (job, printed) = (partner.job, partner.printed);
+    let pair = format!("{number}: jobs {opener} and {job} on layout {printed}");
+    match partner.barest() {
+        Some(barest) => format!("{pair}; the barest layout that does is {barest}"),
+        None => pair,
     }
 }
 

@@ -2,15 +2,16 @@
 
 pub mod bakehouse;
 pub mod bare_sheet;
+pub mod both_ends;
 pub mod driving;
 
 use crate::page::{page, DOCTYPE};
 use crate::picture::answer::product_answer;
 use crate::picture::{Options, JOBS_DRAWN, LAYOUTS_DRAWN};
-use crate::reference::plan::running_order;
+use crate::reference::plan::{plan_of, running_order, Plan};
 use crate::reference::sweep::{turns, Event, Turn};
 use crate::reference::table::table_lines;
-use crate::reference::Table;
+use crate::reference::{Table, ABSENT};
 use crate::report::{same, Outcome};
 use crate::well_formed::{elements, Seen};
 
@@ -58,10 +59,23 @@ pub fn holds_turns(table: &Table) -> Outcome {
         return same("turns of a large table", words.len(), 0);
     }
     same("turns", words.len(), order.len())?;
+    let plan = plan_of(table);
     for (turn, words) in turns(table).iter().zip(&words) {
         tells(turn, words, order.len())?;
+        tells_pass(turn, words, &plan)?;
     }
     Ok(())
+}
+
+/// A turn's pass: the layout printed and, where it is another, the barest that does.
+fn tells_pass(turn: &Turn, words: &str, plan: &Plan) -> Outcome {
+    let (upper, printed) = (plan.uppers[turn.job], plan.printed[turn.job]);
+    let pass = match plan.partners[turn.job] {
+        ABSENT => format!(": job {} alone Cut ", turn.job),
+        _ if upper == printed => format!(" on layout {printed} Cut "),
+        _ => format!(" on layout {printed}; the barest layout that does is {upper} Cut "),
+    };
+    same(words, words.contains(&pass), true)
 }
 
 /// A turn's words: whose it is, what happens, and with a lookup a reason for each other job.

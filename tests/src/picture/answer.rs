@@ -75,12 +75,13 @@ fn read_by_product(bytes: &[u8]) -> Result<Table, Refusal> {
 
 fn plan_by(planner: Planner, table: &Table) -> Result<Plan, Refusal> {
     let mut partners = vec![0; table.jobs()];
-    let mut layouts = partners.clone();
+    let (mut uppers, mut printed) = (partners.clone(), partners.clone());
     let mut work = vec![0; WORK_CELLS];
-    let totals = planner(table, &mut partners, &mut layouts, &mut work)?;
+    let totals = planner(table, &mut partners, &mut uppers, &mut printed, &mut work)?;
     Ok(Plan {
         partners,
-        layouts,
+        uppers,
+        printed,
         totals,
     })
 }

@@ -100,8 +100,17 @@ fn diamond(area: Area) -> Element {
 
 /// The number of a pass in a circle.
 pub fn badge(number: usize, at: Point) -> [Element; 2] {
+    numbered("badge", number, at)
+}
+
+/// The number of a pass where it could print on the barest layout that does.
+pub fn dashed_badge(number: usize, at: Point) -> [Element; 2] {
+    numbered("badge dashed", number, at)
+}
+
+fn numbered(class: &str, number: usize, at: Point) -> [Element; 2] {
     [
-        circle("badge", at, BADGE),
+        circle(class, at, BADGE),
         text("number small middle", at.shifted(0, 4), number),
     ]
 }

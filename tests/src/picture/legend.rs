@@ -1,7 +1,7 @@
 //! What the shapes of a picture mean, in one or more lines under it. Only what the picture holds is
 //! explained.
 
-use super::chips::{badge, sample, CHIP_HEIGHT};
+use super::chips::{badge, dashed_badge, sample, CHIP_HEIGHT};
 use super::markup::Element;
 use super::planned::{Planned, Role};
 use super::shapes::{circle, group, line, rectangle, text, Area, Panel, Point};
@@ -36,7 +36,8 @@ const SOLO: Entry = (
     |at| chip(Role::Solo, at),
     "solo job: alone as the table asks",
 );
-const RUNG: Entry = (rung_sample, "pass with its number, in the layout printed");
+const RUNG: Entry = (rung_sample, "pass with its number: layout printed");
+const BAREST: Entry = (barest_sample, "dashed: the barest layout that does");
 
 /// The entries of a picture with the tree, or of the passes alone.
 pub fn entries(planned: &Planned, with_tree: bool) -> Vec<Entry> {
@@ -62,6 +63,9 @@ pub fn entries(planned: &Planned, with_tree: bool) -> Vec<Entry> {
     );
     if with_tree && holds(Role::LaneOne) {
         entries.push(RUNG);
+    }
+    if with_tree && planned.has_barer() {
+        entries.push(BAREST);
     }
     entries
 }
@@ -110,4 +114,12 @@ fn rung_sample(at: Point) -> Element {
         .holding(line("rung", point(8), point(SAMPLE - 6)))
         .holding(circle("dot", point(SAMPLE - 6), 5))
         .holding_all(badge(1, point(9)))
+}
+
+fn barest_sample(at: Point) -> Element {
+    let point = |right: i32| at.shifted(right, 0);
+    group("sample")
+        .holding(line("rung dashed", point(8), point(SAMPLE - 6)))
+        .holding(circle("dot hollow", point(SAMPLE - 6), 5))
+        .holding_all(dashed_badge(1, point(9)))
 }

@@ -34,6 +34,9 @@ const GAP: i32 = 56;
 /// The width up to which the two always stand side by side.
 const WIDE: i32 = 1600;
 
+/// What "barest" means, where no legend says it.
+const BAREST: &str = "Barest: the highest layout that does for both jobs of a pass, where that is not the layout printed.";
+
 /// What to draw beside the plan.
 #[derive(Clone, Default)]
 pub struct Options {
@@ -120,6 +123,7 @@ fn passes_alone(planned: &Planned, options: &Options) -> Element {
         format!("The passes alone: the tree is drawn for at most {JOBS_DRAWN} jobs and {LAYOUTS_DRAWN} layouts."),
     ];
     said.extend(warning(options));
+    said.extend(planned.has_barer().then(|| BAREST.to_string()));
     said.extend(options.cut.map(|cut| {
         format!(
             "In front of cut {cut}: {}; passes not wholly in front are faint.",

@@ -3,8 +3,8 @@
 
 use super::chips::{badge, job_shape, BADGE, CHIP_HEIGHT};
 use super::markup::{element, Element};
-use super::planned::{Pass, Planned};
-use super::shapes::{group, line, rectangle, text, Area, Panel, Point};
+use super::planned::{Partner, Pass, Planned};
+use super::shapes::{group, line, rectangle, text, text_width, Area, Panel, Point};
 use super::tracks::{count, tracks};
 
 const HEADING: i32 = 26;
@@ -22,10 +22,13 @@ const ARCS: i32 = 352;
 /// From arc to arc, and the room that arcs take at least.
 const ARC: i32 = 10;
 const LEAST_ARCS: i32 = 50;
-/// A pass: its badge, two lanes and its layout.
+/// A pass: its badge, two lanes and its layouts, with the room that these take at least.
 const LANES: i32 = 18;
-const PASS: i32 = LANES + 2 * CHIP + 100;
+const LAYOUTS: i32 = 2 * CHIP + LANES + 14;
+const LEAST_SAID: i32 = 86;
 const ALONE: i32 = 70;
+/// From the layouts of the passes to the jobs that run alone.
+const GAP: i32 = 14;
 
 /// The panel with its upper left corner at a point.
 pub fn draw(planned: &Planned, at: Point, cut: Option<usize>) -> Panel {
@@ -54,7 +57,7 @@ pub fn draw(planned: &Planned, at: Point, cut: Option<usize>) -> Panel {
 fn arc_tracks(planned: &Planned) -> Vec<usize> {
     let rows = |pass: &Pass| {
         pass.partner
-            .map(|(other, _)| rows_of(planned, pass.opener, other))
+            .map(|partner| rows_of(planned, pass.opener, partner.job))
     };
     let paired: Vec<usize> = (0..planned.passes.len())
         .filter(|&at| planned.passes[at].partner.is_some())
@@ -106,7 +109,9 @@ impl Column<'_> {
 
     /// The left end of the jobs that run alone.
     fn alone(&self) -> i32 {
-        self.pairs() + PASS
+        let partners = self.planned.passes.iter().filter_map(|pass| pass.partner);
+        let widths = partners.map(|partner| text_width(&partner.layouts()) + GAP);
+        self.pairs() + LAYOUTS + widths.max().unwrap_or(0).max(LEAST_SAID)
     }
 
     fn headings(&self) -> Element {
@@ -186,13 +191,13 @@ impl Column<'_> {
         let mark = if behind { "pass behind" } else { "pass" };
         let marked = group(mark).with("data-pass", pass.number);
         match pass.partner {
-            Some((other, layout)) => self.pair(marked, pass, other, layout),
+            Some(partner) => self.pair(marked, pass, partner),
             None => self.single(marked, pass),
         }
     }
 
-    /// Two lanes of the press side by side, and the layout that both print on.
-    fn pair(&self, marked: Element, pass: &Pass, other: usize, layout: u16) -> Element {
+    /// Two lanes of the press side by side, the layout that both print on, and the barest that does.
+    fn pair(&self, marked: Element, pass: &Pass, partner: Partner) -> Element {
         let row = self.row(self.planned.place(pass.opener));
         let left = self.pairs() - self.at.x + LANES;
         let press = Area {
@@ -201,16 +206,17 @@ impl Column<'_> {
             width: 2 * CHIP + 10,
             height: CHIP_HEIGHT + 6,
         };
-        let said = self.point(left + 2 * CHIP + 14, row + 5);
+        let said = self.point(left - LANES + LAYOUTS, row + 5);
         let lane =
             |job: usize, right: i32| job_shape(self.planned, job, self.chip(right, row), "lane");
         marked
-            .with("data-layout", layout)
+            .with("data-layout", partner.printed)
+            .with("data-upper", partner.upper)
             .holding(rectangle("press", press))
             .holding_all(badge(pass.number, self.point(left - LANES, row)))
             .holding(lane(pass.opener, left))
-            .holding(lane(other, left + CHIP + 4))
-            .holding(text("said", said, format!("layout {layout}")))
+            .holding(lane(partner.job, left + CHIP + 4))
+            .holding(text("said", said, partner.layouts()))
     }
 
     fn single(&self, marked: Element, pass: &Pass) -> Element {
@@ -243,8 +249,7 @@ impl Column<'_> {
     fn arc_lines(&self) -> Element {
         let passes = self.planned.passes.iter().zip(&self.arcs);
         group("arcs").holding_all(passes.filter_map(|(pass, &track)| {
-            let (other, _) = pass.partner?;
-            let arc = self.arc(pass.opener, other, track);
+            let arc = self.arc(pass.opener, pass.partner?.job, track);
             Some(arc.with("data-pass", pass.number))
         }))
     }

@@ -25,14 +25,39 @@ pub struct Pass {
     pub number: usize,
     /// The job that opens the pass: of a pair the earlier one.
     pub opener: usize,
-    /// The later job, and the layout that both print on.
-    pub partner: Option<(usize, u16)>,
+    pub partner: Option<Partner>,
+}
+
+/// The later job of a pair, and both ends of what the two share.
+#[derive(Clone, Copy, Debug, PartialEq, Eq)]
+pub struct Partner {
+    pub job: usize,
+    /// The highest, which is the barest layout that does for both.
+    pub upper: u16,
+    /// The deepest, which is printed.
+    pub printed: u16,
 }
 
 impl Pass {
     pub fn jobs(&self) -> impl Iterator<Item = usize> {
-        let partner = self.partner.map(|(job, _)| job);
+        let partner = self.partner.map(|partner| partner.job);
         std::iter::once(self.opener).chain(partner)
+    }
+}
+
+impl Partner {
+    /// The barest layout that does, where it is not the one printed.
+    pub fn barest(&self) -> Option<u16> {
+        (self.upper != self.printed).then_some(self.upper)
+    }
+
+    /// The layout printed, and the barest that does where that is another.
+    pub fn layouts(&self) -> String {
+        let printed = self.printed;
+        match self.barest() {
+            Some(barest) => format!("layout {printed}, barest {barest}"),
+            None => format!("layout {printed}"),
+        }
     }
 }
 
@@ -118,6 +143,12 @@ impl Planned {
         pass.jobs().all(|job| self.place(job) < cut)
     }
 
+    /// Whether some pair could print on a barer layout than it does.
+    pub fn has_barer(&self) -> bool {
+        let mut partners = self.passes.iter().filter_map(|pass| pass.partner);
+        partners.any(|partner| partner.barest().is_some())
+    }
+
     pub fn pairs_in_front(&self, cut: usize) -> usize {
         let in_front = |pass: &&Pass| pass.partner.is_some() && self.is_in_front(pass, cut);
         self.passes.iter().filter(in_front).count()
@@ -136,7 +167,11 @@ fn passes(plan: &Plan, order: &[usize]) -> Vec<Pass> {
             passes.push(Pass {
                 number: passes.len() + 1,
                 opener: job,
-                partner: (partner != ABSENT).then(|| (usize::from(partner), plan.layouts[job])),
+                partner: (partner != ABSENT).then(|| Partner {
+                    job: usize::from(partner),
+                    upper: plan.uppers[job],
+                    printed: plan.printed[job],
+                }),
             });
         }
     }

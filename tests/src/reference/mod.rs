@@ -1,7 +1,8 @@
 //! A second implementation of the planner, written from document 01's definitions, as document 02's
-//! requests have changed them (2026-01, the bare sheet), and compared with the proved one. It is slow
-//! on purpose: nothing that it plans with uses a sweep, a segment tree, or Theorem 6. The module
-//! `sweep` tells the sweep's turns, and its plan is compared with the other.
+//! requests have changed them (2026-01, the bare sheet; 2026-02, both ends of what they share), and
+//! compared with the proved one. It is slow on purpose: nothing that it plans with uses a sweep, a
+//! segment tree, or Theorem 6. The module `sweep` tells the sweep's turns, and its plan is compared
+//! with the other.
 
 pub mod paths;
 pub mod plan;
@@ -20,7 +21,7 @@ pub const JOB_LIMIT: usize = 4096;
 /// The work cells that *Plan* asks for.
 pub const WORK_CELLS: usize = 32_768;
 /// The output bytes that the whole run asks for.
-pub const OUTPUT_BYTES: usize = 32_768;
+pub const OUTPUT_BYTES: usize = 40_960;
 
 /// Why an input is refused ("What each operation turns away").
 #[derive(Clone, Copy, Debug, PartialEq, Eq)]

@@ -82,6 +82,15 @@ pub fn depth_of_highest(table: &Table, job: usize) -> usize {
     highest(table, job).map_or(0, |layout| depth(&table.parents, layout))
 }
 
+/// The highest layout other than 0 on both paths: the first one met going down to the bottom of
+/// `job`.
+pub fn highest_shared(table: &Table, job: usize, other: &Path) -> Option<u16> {
+    own_walk(table, job)
+        .into_iter()
+        .rev()
+        .find(|&layout| other.contains(layout))
+}
+
 /// The deepest layout other than 0 on both paths: the first one met going up from the bottom of
 /// `job`.
 pub fn deepest_shared(table: &Table, job: usize, other: &Path) -> Option<u16> {

@@ -2,7 +2,7 @@
 //! each operation turns away"): in running order each free job takes the first free later job that
 //! shares with it.
 
-use super::paths::{deepest_shared, depth_of_highest, is_bare, own_paths, Path};
+use super::paths::{deepest_shared, depth_of_highest, highest_shared, is_bare, own_paths, Path};
 use super::tree::{is_ancestor, refuse_wrong_parents};
 use super::visits::{lookup_visits, slot_leaves};
 use super::{refuse, Refusal, Table, ABSENT, JOB_LIMIT, LAYOUT_LIMIT, WORK_CELLS};
@@ -15,19 +15,40 @@ pub struct Totals {
     pub visits: u32,
 }
 
-/// A plan: partner and shared layout by job number, FFFF for none.
+/// A plan by job number, FFFF for none: the partner, and of the layouts that both accept, other than
+/// 0, the highest and the deepest, which is printed.
 #[derive(Clone, Debug, PartialEq, Eq)]
 pub struct Plan {
     pub partners: Vec<u16>,
-    pub layouts: Vec<u16>,
+    pub uppers: Vec<u16>,
+    pub printed: Vec<u16>,
     pub totals: Totals,
+}
+
+/// The results of *Plan*, a cell for each job.
+#[derive(Clone, Copy, Debug)]
+pub struct Results<'a> {
+    pub partners: &'a [u16],
+    pub uppers: &'a [u16],
+    pub printed: &'a [u16],
+}
+
+impl Plan {
+    pub fn results(&self) -> Results<'_> {
+        Results {
+            partners: &self.partners,
+            uppers: &self.uppers,
+            printed: &self.printed,
+        }
+    }
 }
 
 /// The lengths of the results and the work cells lent to *Plan*.
 #[derive(Clone, Copy, Debug)]
 pub struct Room {
     pub partners: usize,
-    pub layouts: usize,
+    pub uppers: usize,
+    pub printed: usize,
     pub work: usize,
 }
 
@@ -48,8 +69,9 @@ pub fn plan(table: &Table, room: Room) -> Result<Plan, Refusal> {
 fn refuse_lengths(table: &Table, room: Room) -> Result<(), Refusal> {
     let jobs = table.tops.len();
     let equal = table.bottoms.len() == jobs && table.marks.len() == jobs;
-    let long = jobs <= room.partners && jobs <= room.layouts && WORK_CELLS <= room.work;
-    if equal && long {
+    let results = [room.partners, room.uppers, room.printed];
+    let long = results.iter().all(|&result| jobs <= result);
+    if equal && long && WORK_CELLS <= room.work {
         Ok(())
     } else {
         refuse(8, 0)
@@ -124,16 +146,24 @@ fn greedy_matching(table: &Table, order: &[usize], paths: &[Path]) -> Matching {
     Matching { partners, lookups }
 }
 
-/// A matching written as *Plan* writes it, each pair with its deepest shared layout, and its totals.
+/// Of a job and the path of another, one of the layouts that are on both.
+type Shared = fn(&Table, usize, &Path) -> Option<u16>;
+
+/// A matching written as *Plan* writes it, each pair with both ends of what it shares, and its
+/// totals.
 pub fn with_totals(table: &Table, partners: Vec<Option<usize>>, visits: u32) -> Plan {
     let paths = own_paths(table);
-    let layout = |(job, partner): (usize, &Option<usize>)| match partner {
-        Some(other) => deepest_shared(table, job, &paths[*other]).unwrap_or(ABSENT),
-        None => ABSENT,
+    let of_pairs = |shared: Shared| {
+        let cells = partners.iter().enumerate().map(|(job, partner)| {
+            let layout = partner.and_then(|other| shared(table, job, &paths[other]));
+            layout.unwrap_or(ABSENT)
+        });
+        cells.collect()
     };
     let paired = partners.iter().flatten().count();
     Plan {
-        layouts: partners.iter().enumerate().map(layout).collect(),
+        uppers: of_pairs(highest_shared),
+        printed: of_pairs(deepest_shared),
         partners: partners.iter().map(as_cell).collect(),
         totals: Totals {
             pairs: (paired / 2) as u16,

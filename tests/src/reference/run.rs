@@ -1,5 +1,5 @@
 //! The whole run from bytes to bytes (document 01, "The plan" and "What each operation turns
-//! away").
+//! away"; 2026-02: both ends in a pair's line, and more output asked for).
 
 use super::plan::{plan_of, running_order, Plan};
 use super::table::read;
@@ -35,11 +35,12 @@ fn plan_lines(table: &Table, plan: &Plan) -> String {
     let mut lines = String::new();
     for (rank, &job) in order.iter().enumerate() {
         let partner = plan.partners[job];
-        let printed = order[..rank].contains(&usize::from(partner));
+        let written = order[..rank].contains(&usize::from(partner));
         if partner == ABSENT {
             lines += &format!("12{job:04X}\n");
-        } else if !printed {
-            lines += &format!("11{job:04X}{partner:04X}{:04X}\n", plan.layouts[job]);
+        } else if !written {
+            let (upper, printed) = (plan.uppers[job], plan.printed[job]);
+            lines += &format!("11{job:04X}{partner:04X}{upper:04X}{printed:04X}\n");
         }
     }
     let totals = plan.totals;

@@ -16,6 +16,9 @@ put-four-requires-2 c κs = search needs
 put-four-requires-3 : tie.Need-put-four-requires-3
 put-four-requires-3 c κs = search needs
 
+put-four-requires-4 : tie.Need-put-four-requires-4
+put-four-requires-4 c κs = search needs
+
 put-byte-requires : tie.Need-put-byte-requires
 put-byte-requires c κs = search needs
 
@@ -23,7 +26,7 @@ same-length : tie.Need-same-length
 same-length c = search needs
 
 returns : tie.Need-returns
-returns c = pair-appended _ _ _ (c .before .before .before .before .before .before .before .before .before .before .before .before .before .before .before .before .before .before .put-kind .ensures) (c .before .before .before .before .before .before .before .before .before .before .before .before .before .before .put-four .ensures) (c .before .before .before .before .before .before .before .before .before .before .put-four2 .ensures) (c .before .before .before .before .before .before .put-four3 .ensures) (c .before .before .put-byte .ensures)
+returns c = pair-appended _ _ _ _ (c .before .before .before .before .before .before .before .before .before .before .before .before .before .before .before .before .before .before .before .before .before .before .put-kind .ensures) (c .before .before .before .before .before .before .before .before .before .before .before .before .before .before .before .before .before .before .put-four .ensures) (c .before .before .before .before .before .before .before .before .before .before .before .before .before .before .put-four2 .ensures) (c .before .before .before .before .before .before .before .before .before .before .put-four3 .ensures) (c .before .before .before .before .before .before .put-four4 .ensures) (c .before .before .put-byte .ensures)
 
 pub put-pair-spec : {M : Type 1} → statement M
 put-pair-spec =
@@ -33,6 +36,7 @@ put-pair-spec =
     put-four-requires
     put-four-requires-2
     put-four-requires-3
+    put-four-requires-4
     put-byte-requires
     same-length
     returns)

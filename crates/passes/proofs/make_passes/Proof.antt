@@ -18,7 +18,7 @@ sweep-requires : tie.Need-sweep-requires
 sweep-requires c κs =
     let s = c .before .before .before .before .before .before .before .before .before .before .before .before .before .before .before .before in
     let prepared = c .before .before .before .before .before .before .before .prepare .ensures in
-    sweepable (table-lent s) (s .pre .0) (s .args .work .now) _ (s .pre .1 .1) (prepared .1) (prepared .0)
+    sweepable (table-lent s) (s .pre .0) (s .args .work .now) _ (s .pre .1 .1) (prepared .1 .0) (prepared .0)
 
 cast-pairs : tie.Need-cast-pairs
 cast-pairs c = search needs
@@ -47,7 +47,7 @@ returns : tie.Need-returns
 returns c =
     let s = c .before .before .before .before .before .before .before .before .before .before .before .before .before .before .before .before .before .before .before .before in
     let prepared = c .before .before .before .before .before .before .before .before .before .before .before .prepare .ensures in
-    made (table-lent s) (s .pre .0) _ _ _ _ (prepared .0) (c .before .before .before .sweep .ensures) _ _ _ _ refl refl (s .pre .1 .0) (s .pre .1 .1) (prepared .1) _ refl refl refl
+    made (table-lent s) (s .pre .0) _ _ _ _ (prepared .0) (c .before .before .before .sweep .ensures) _ _ _ _ _ refl refl (s .pre .1 .0) (prepared .1 .1) (s .pre .1 .1) (prepared .1 .0) _ refl refl refl
 
 pub make-passes-spec : {M : Type 1} → statement M
 make-passes-spec =

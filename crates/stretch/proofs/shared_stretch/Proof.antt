@@ -1,82 +1,83 @@
--- `shared_stretch` answers the stretch: a count above 0 says that the first number of its list stands in the other, so the two counts pick
--- the case of the definition, and each answer is cut from the list that the case names.
-use Prim.Native.Nat.{_<_}
-use mathlib.Core.Path.{_≡_, refl, sym, ap, _∙_}
+-- `shared_stretch` answers the stretch of the lists as dropped: each is the part of its list from the cell on that `dropped` names.
+use Prim.Native.Nat.{ℕ, _+_, _*_, _≤_}
+use mathlib.Core.Path.{_≡_, ap}
 use native.Mathlib.Omega.{arith}
 use borrow.Author.Needs.{needs}
+use borrow.Rule.Slice.PartAt.{part-to-end}
 use denote.Ref.{now}
-use Rattle.model.specs.Stretch.{leading, ofFirst, ofSecond}
-use Rattle.stretch.specs.StretchLaws.{stretch-first, stretch-second, stretch-none}
-use Rattle.stretch.proofs.Laws.{leading-part, outcome}
+use lib.ListN.{length}
+use Rattle.stretch.proofs.Laws.{dropped-le, outcome-dropped}
 use Rattle.stretch.proofs.shared_stretch.Statement.{statement}
 use Rattle.stretch.proofs.shared_stretch.Tie as tie
 
-leading-requires : tie.Need-leading-requires
-leading-requires c κs = search needs
+dropped-requires : tie.Need-dropped-requires
+dropped-requires c κs = search needs
 
-slice-aggregate-result : tie.Need-slice-aggregate-result
-slice-aggregate-result c =
-    let call = c .before .before in
-    let args = call .before .before .before .args in
-    leading-part (now (args .first)) (now (args .second)) (call .leading .result) (call .leading .ensures)
+dropped-requires-2 : tie.Need-dropped-requires-2
+dropped-requires-2 c κs = search needs
 
--- the first list's first number stands in the second
+-- what is dropped is a part of each list
+first-within : (c : tie.After-dropped2) → c .before .dropped .result ≤ length (now (c .before .before .before .before .args .first))
+first-within c = rw (c .before .dropped .ensures) (dropped-le (now (c .before .before .before .before .args .first)))
+
+second-within : (c : tie.After-dropped2) → c .dropped2 .result ≤ length (now (c .before .before .before .before .args .second))
+second-within c = rw (c .dropped2 .ensures) (dropped-le (now (c .before .before .before .before .args .second)))
+
+mul-stretch-of : tie.Need-mul-stretch-of
+mul-stretch-of c = omega (arith, first-within c)
+
+sub-stretch-of : tie.Need-sub-stretch-of
+sub-stretch-of c = first-within c
+
+part-stretch-of-start : tie.Need-part-stretch-of-start
+part-stretch-of-start c = first-within c
+
+part-stretch-of-end : tie.Need-part-stretch-of-end
+part-stretch-of-end c = search needs
+
+mul-stretch-of-2 : tie.Need-mul-stretch-of-2
+mul-stretch-of-2 c = omega (arith, second-within (c .before))
+
+sub-stretch-of-2 : tie.Need-sub-stretch-of-2
+sub-stretch-of-2 c = second-within (c .before)
+
+part-stretch-of-start-2 : tie.Need-part-stretch-of-start-2
+part-stretch-of-start-2 c = second-within (c .before)
+
+part-stretch-of-end-2 : tie.Need-part-stretch-of-end-2
+part-stretch-of-end-2 c = search needs
+
+stretch-of-requires : tie.Need-stretch-of-requires
+stretch-of-requires c κs = search needs
+
+-- a cell has two bytes
+doubled : (p : ℕ × ℕ) (n : ℕ) → _≡_ {A = ℕ × ℕ} (p .0, n * 2 + p .1) (p .0, p .1 + 2 * n)
+doubled p n = ap (λ (k : ℕ). (p .0, k)) (omega arith)
+
 returns : tie.Need-returns
 returns c =
-    let call = c .before .before in
-    let args = call .before .before .before .args in
-    let count = call .leading .ensures in
-    let some : 0 < leading (now (args .first)) (now (args .second)) = omega (arith, count, c .before .if1 .taken) in
-    outcome (args .first) (args .second) _ (ofFirst (call .leading .result))
-    (stretch-first (now (args .first)) (now (args .second)) some ∙ ap ofFirst (sym count))
-    refl
-    refl
-
-leading-requires-2 : tie.Need-leading-requires-2
-leading-requires-2 c κs = search needs
-
-slice-aggregate-result-2 : tie.Need-slice-aggregate-result-2
-slice-aggregate-result-2 c =
-    let call = c .before .before in
-    let args = call .before .before .before .before .before .args in
-    leading-part (now (args .second)) (now (args .first)) (call .leading2 .result) (call .leading2 .ensures)
-
--- only the second list's first number stands in the other
-returns-2 : tie.Need-returns-2
-returns-2 c =
-    let call = c .before .before in
-    let first-call = call .before .before in
-    let args = first-call .before .before .before .args in
-    let count = call .leading2 .ensures in
-    let none : leading (now (args .first)) (now (args .second)) ≡ 0 = omega (arith, first-call .leading .ensures, call .before .if1 .left) in
-    let some : 0 < leading (now (args .second)) (now (args .first)) = omega (arith, count, c .before .if2 .taken) in
-    outcome (args .first) (args .second) _ (ofSecond (call .leading2 .result))
-    (stretch-second (now (args .first)) (now (args .second)) none some ∙ ap ofSecond (sym count))
-    refl
-    refl
-
-slice-aggregate-result-3 : tie.Need-slice-aggregate-result-3
-slice-aggregate-result-3 c = search needs
-
--- neither does
-returns-3 : tie.Need-returns-3
-returns-3 c =
-    let call = c .before .before in
-    let first-call = call .before .before in
-    let args = first-call .before .before .before .args in
-    let none : leading (now (args .first)) (now (args .second)) ≡ 0 = omega (arith, first-call .leading .ensures, call .before .if1 .left) in
-    let neither : leading (now (args .second)) (now (args .first)) ≡ 0 = omega (arith, call .leading2 .ensures, c .before .if2 .left) in
-    outcome (args .first) (args .second) _ (ofFirst 0) (stretch-none (now (args .first)) (now (args .second)) none neither) refl refl
+    let call = c .before .before .before in
+    let args = call .before .before .before .before .args in
+    outcome-dropped (args .first) (args .second) _ _ _ (call .before .dropped .result) (call .dropped2 .result) (call .before .dropped .ensures) (call .dropped2 .ensures)
+    (part-to-end (now (args .first)) (call .before .dropped .result))
+    (doubled (args .first .ptr) (call .before .dropped .result))
+    (part-to-end (now (args .second)) (call .dropped2 .result))
+    (doubled (args .second .ptr) (call .dropped2 .result))
+    (c .stretch-of .ensures)
 
 pub shared-stretch-spec : {M : Type 1} → statement M
 shared-stretch-spec =
     tie.close
     (tie.spec
-    leading-requires
-    slice-aggregate-result
-    returns
-    leading-requires-2
-    slice-aggregate-result-2
-    returns-2
-    slice-aggregate-result-3
-    returns-3)
+    dropped-requires
+    dropped-requires-2
+    mul-stretch-of
+    sub-stretch-of
+    part-stretch-of-start
+    part-stretch-of-end
+    mul-stretch-of-2
+    sub-stretch-of-2
+    part-stretch-of-start-2
+    part-stretch-of-end-2
+    stretch-of-requires
+    returns)

@@ -1,7 +1,8 @@
 //! The tree with its jobs. A layout is a box over its leaves, and its children stand below it. A
 //! job is a bar in the column of its bottom's first leaf: there the boxes from the depth of its
 //! bottom up to that of its top are just its path. A pair is tied by a rung in the box of the
-//! layout that it prints on. The box of layout 0, on which no pair prints, is white and dashed.
+//! layout that it prints on, and by a dashed one in that of the barest layout that does, where that is
+//! another. The box of layout 0, on which no pair prints, is white and dashed.
 
 mod columns;
 mod rungs;

@@ -1,9 +1,10 @@
-//! The pairs in the tree: a rung from bar to bar in the box of the layout that both print on, in a
-//! track of its row where it touches no other.
+//! The pairs in the tree: a rung from bar to bar in the box of the layout that both print on, and a
+//! dashed one in the box of the barest that does where that is another. Each stands in a track of its
+//! row where it touches no other.
 
 use super::columns::Columns;
 use super::{Rows, HEAD, RUNG};
-use crate::picture::chips::{badge, BADGE};
+use crate::picture::chips::{badge, dashed_badge, BADGE};
 use crate::picture::markup::Element;
 use crate::picture::planned::{Pass, Planned};
 use crate::picture::shapes::{circle, group, line, Point};
@@ -18,12 +19,20 @@ struct Rung {
     pass: Pass,
     partner: usize,
     layout: u16,
+    kind: Kind,
     track: usize,
+}
+
+/// Which end of what a pair shares a rung stands in.
+#[derive(Clone, Copy, PartialEq, Eq)]
+enum Kind {
+    Printed,
+    Barest,
 }
 
 impl Rungs<'_> {
     pub fn new<'a>(planned: &'a Planned, columns: &Columns) -> Rungs<'a> {
-        let mut rungs: Vec<Rung> = planned.passes.iter().filter_map(rung).collect();
+        let mut rungs: Vec<Rung> = planned.passes.iter().flat_map(rungs_of).collect();
         let rows = 1 + planned
             .tree
             .depths
@@ -56,7 +65,11 @@ impl Rungs<'_> {
     pub fn lines(&self, columns: &Columns, rows: &Rows) -> Element {
         let drawn = self.rungs.iter().map(|rung| {
             let (from, to) = self.points(rung, columns, rows);
-            line("rung", from, to).with("data-pass", rung.pass.number)
+            let class = match rung.kind {
+                Kind::Printed => "rung",
+                Kind::Barest => "rung dashed",
+            };
+            line(class, from, to).with("data-pass", rung.pass.number)
         });
         group("rungs").holding_all(drawn)
     }
@@ -65,11 +78,16 @@ impl Rungs<'_> {
     pub fn ends(&self, columns: &Columns, rows: &Rows) -> Element {
         let drawn = self.rungs.iter().map(|rung| {
             let (from, to) = self.points(rung, columns, rows);
-            group("print")
-                .with("data-pass", rung.pass.number)
+            let number = rung.pass.number;
+            let (class, dot, badge) = match rung.kind {
+                Kind::Printed => ("print", "dot", badge(number, from)),
+                Kind::Barest => ("barest", "dot hollow", dashed_badge(number, from)),
+            };
+            group(class)
+                .with("data-pass", number)
                 .with("data-layout", rung.layout)
-                .holding(circle("dot", to, 5))
-                .holding_all(badge(rung.pass.number, from))
+                .holding(circle(dot, to, 5))
+                .holding_all(badge)
         });
         group("prints").holding_all(drawn)
     }
@@ -93,11 +111,19 @@ impl Rung {
     }
 }
 
-fn rung(pass: &Pass) -> Option<Rung> {
-    pass.partner.map(|(partner, layout)| Rung {
+/// The rung of a pair, and that of its barest layout where it is another.
+fn rungs_of(pass: &Pass) -> Vec<Rung> {
+    let Some(partner) = pass.partner else {
+        return Vec::new();
+    };
+    let rung = |layout: u16, kind: Kind| Rung {
         pass: *pass,
-        partner,
+        partner: partner.job,
         layout,
+        kind,
         track: 0,
-    })
+    };
+    let barest = partner.barest().map(|layout| rung(layout, Kind::Barest));
+    let printed = rung(partner.printed, Kind::Printed);
+    std::iter::once(printed).chain(barest).collect()
 }

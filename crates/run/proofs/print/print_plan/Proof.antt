@@ -17,19 +17,24 @@ add-count : tie.Need-add-count
 add-count c = search needs
 
 put-plan-requires : tie.Need-put-plan-requires
-put-plan-requires c κs = let q = c .before .before .before .before .before .before .before .before .pre .0 in (refl, ((q .0, q .1), c .before .before .before .before .before .before .before .before .pre .1))
+put-plan-requires c κs = let p = c .before .before .before .before .before .before .before .before .before .pre in (refl, ((p .0 .0, p .0 .1), p .1))
 
 put-totals-requires : tie.Need-put-totals-requires
-put-totals-requires c κs = (refl, totals-room (c .before .before .before .before .before .before .before .before .before .before .before .before .before .pre .0 .0) _ _ _ _ _ (c .before .before .before .before .before .before .before .before .before .before .before .before .before .pre .0 .1) _ _ _ _ (c .before .before .before .before .before .before .before .before .before .before .before .before .before .pre .1) (c .before .before .before .before .put-plan .ensures (c .before .before .before .before .before .before .before .before .before .before .before .before .before .pre .0 .0) (c .before .before .before .before .before .before .before .before .before .before .before .before .before .pre .0 .1)))
+put-totals-requires c κs =
+    let p = c .before .before .before .before .before .before .before .before .before .before .before .before .before .before .pre in
+    (refl, totals-room (p .0 .0) _ _ _ _ _ _ (p .0 .1) _ _ _ _ (p .1) (c .before .before .before .before .put-plan .ensures (p .0 .0) (p .0 .1)))
 
 clear-from-requires : tie.Need-clear-from-requires
-clear-from-requires c κs = omega (arith, totals-room (c .before .before .before .before .before .before .before .before .before .before .before .before .before .before .before .before .before .pre .0 .0) _ _ _ _ _ (c .before .before .before .before .before .before .before .before .before .before .before .before .before .before .before .before .before .pre .0 .1) _ _ _ _ (c .before .before .before .before .before .before .before .before .before .before .before .before .before .before .before .before .before .pre .1) (c .before .before .before .before .before .before .before .before .put-plan .ensures (c .before .before .before .before .before .before .before .before .before .before .before .before .before .before .before .before .before .pre .0 .0) (c .before .before .before .before .before .before .before .before .before .before .before .before .before .before .before .before .before .pre .0 .1)), c .before .before .before .put-totals .ensures .moved, c .before .before .before .put-totals .ensures .sized)
+clear-from-requires c κs =
+    let p = c .before .before .before .before .before .before .before .before .before .before .before .before .before .before .before .before .before .before .pre in
+    let put = c .before .before .before .put-totals .ensures in
+    omega (arith, totals-room (p .0 .0) _ _ _ _ _ _ (p .0 .1) _ _ _ _ (p .1) (c .before .before .before .before .before .before .before .before .put-plan .ensures (p .0 .0) (p .0 .1)), put .moved, put .sized)
 
 same-length : tie.Need-same-length
 same-length c = search needs
 
 returns : tie.Need-returns
-returns c = λ tb p of. plan-printed tb _ _ _ _ _ p _ of _ (le-refl _) _ _ _ _ _ _ (c .before .before .before .before .before .before .before .before .before .before .before .before .before .before .before .before .before .before .before .before .pre .1) (c .before .before .before .before .before .before .before .before .before .before .before .put-plan .ensures tb p) (c .before .before .before .before .before .before .put-totals .ensures) (c .before .before .clear-from .ensures)
+returns c = λ tb p of. plan-printed tb _ _ _ _ _ _ p _ of _ (le-refl _) _ _ _ _ _ _ (c .before .before .before .before .before .before .before .before .before .before .before .before .before .before .before .before .before .before .before .before .before .pre .1) (c .before .before .before .before .before .before .before .before .before .before .before .put-plan .ensures tb p) (c .before .before .before .before .before .before .put-totals .ensures) (c .before .before .clear-from .ensures)
 
 pub print-plan-spec : {M : Type 1} → statement M
 print-plan-spec =
