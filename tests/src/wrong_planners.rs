@@ -1,5 +1,6 @@
 //! The planners that document 01 says must not get through ("Plans that look fine"), and those that
-//! mistake layout 0, a solo mark or an end of what a pair shares, each with the table that catches it.
+//! mistake layout 0, a solo mark, a tie or an end of what a pair shares, each with the table that
+//! catches it.
 //! The checks of *Plan* are tried on them: a check that accepts one of these checks nothing.
 
 use crate::reference::paths::{
@@ -91,6 +92,14 @@ pub fn wrong_planners() -> Vec<WrongPlanner> {
         "a solo job that could share",
         marks_ignored,
     ));
+    planners.push(WrongPlanner {
+        order: greater_numbers_first,
+        ..wrong(
+            "ties by the greater number",
+            "a chain of two",
+            ties_by_greater_number,
+        )
+    });
     planners
 }
 
@@ -224,6 +233,18 @@ fn shallowest_order(table: &Table) -> Vec<usize> {
 
 fn shallowest_first(table: &Table) -> Result<Plan, Refusal> {
     let order = shallowest_order(table);
+    Ok(greedy_by(table, &order, |candidates| candidates.first()))
+}
+
+/// Equal depths by greater number.
+fn greater_numbers_first(table: &Table) -> Vec<usize> {
+    let mut order: Vec<usize> = (0..table.jobs()).collect();
+    order.sort_by_key(|&job| Reverse((depth_of_highest(table, job), job)));
+    order
+}
+
+fn ties_by_greater_number(table: &Table) -> Result<Plan, Refusal> {
+    let order = greater_numbers_first(table);
     Ok(greedy_by(table, &order, |candidates| candidates.first()))
 }
 

@@ -30,6 +30,12 @@ pub record Columns (tb : Table) (highests quiet : List ℕ) : Type 0 where
 
 -- ---- one job more
 
+-- what the cells of job j, with bottom b, get: its top is the highest layout unless it is layout 0, where the branch of the bottom is
+pub record HighestSet (tree : List ℕ) (b j : ℕ) (tops marks : List ℕ) (h : ℕ) (tops′ marks′ : List ℕ) : Type 0 where
+  pub highest-is : h ≡ cond (eqb (getD tops j 0) 0) (getD tree (branchCells + b) 0) (getD tops j 0)
+  pub top-set : tops′ ≡ set tops j h
+  pub mark-set : marks′ ≡ set marks j (cond (eqb h 0) 1 (getD marks j 0))
+
 -- the first t jobs have their highest layouts and marks, the others still their tops and marks
 pub record SetTo (tb : Table) (t : ℕ) (tops marks : List ℕ) : Type 0 where
   pub tops-length : length tops ≡ jobs tb
@@ -62,7 +68,7 @@ module _ (tb : Table) (a : Accepted tb) where
   module _ (j : ℕ) (h : j < jobs tb) (tree : List ℕ) (d : Spanned (tb .parents) tree) (tops marks : List ℕ) (s : SetTo tb j tops marks) where
     -- what the next job's cells get
     module _ (v : ℕ) (v-is : v ≡ cond (eqb (getD tops j 0) 0) (getD tree (branchCells + bottom tb j) 0) (getD tops j 0)) (m : ℕ) (m-is : m ≡ cond (eqb v 0) 1 (getD marks j 0)) where
-      highest-value : v ≡ highest tb j
+      pub highest-value : v ≡ highest tb j
       highest-value = v-is ∙ rw (s .top-at j (omega arith), d .branch-at (bottom tb j) (a .bottom-known j h)) (sym (highest-is tb (a .tree) j (a .downward j h)))
 
       bare-value : eqb v 0 ≡ bare tb j

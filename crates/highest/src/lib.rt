@@ -1,5 +1,4 @@
 // What planning goes by in the place of a job's top and mark: its highest layout other than 0, and whether it asks nobody.
-use jobs::bottom_of;
 use jobs::top_of;
 use model::JobNumber;
 use model::LayoutNumber;
@@ -7,15 +6,12 @@ use settle::TREE;
 use settle::branch_of;
 ghost use mathlib.Core.Path.{_≡_};
 ghost use mathlib.Core.Bool.{cond, not};
-ghost use mathlib.Core.List.{List};
-ghost use Prim.Native.Nat.{ℕ, _+_, _<_};
+ghost use Prim.Native.Nat.{_+_, _<_};
 ghost use lib.ListN.{length, getD};
 ghost use lib.Dec.{eqb};
 ghost use Rattle.model.specs.Tree.{layoutLimit};
-ghost use Rattle.model.specs.Jobs.{tableOf};
-ghost use Rattle.settle.specs.Spanned.{branchCells, Spanned};
-ghost use Rattle.jobs.specs.Accepted.{Accepted};
-ghost use Rattle.highest.specs.Columns.{unmarked, Columns};
+ghost use Rattle.settle.specs.Spanned.{branchCells};
+ghost use Rattle.highest.specs.Columns.{unmarked, HighestSet};
 
 // The highest layout of a job, where the columns are set.
 pub fn highest_at(highests: &[u16], job: JobNumber) -> LayoutNumber
@@ -57,18 +53,23 @@ fn quiet_mark(mark: u8, highest: LayoutNumber) -> u8
     mark
 }
 
-// Puts each job's highest layout in the place of its top, and a mark at each job that asks nobody.
-pub fn set_highest(tree: &[u16; TREE], tops: &mut [u16], bottoms: &[u16], marks: &mut [u8])
-    requires { ⌜ ((ps : List ℕ) × Accepted (tableOf ps (now tops) (now bottoms) (now marks)) × Spanned ps (now tree)) ⌝ }
-    ensures { λ r. ⌜ ((ps : List ℕ) → Accepted (tableOf ps (now (tops .entry)) (now (bottoms .entry)) (now (marks .entry))) → Spanned ps (now (tree .entry)) → Columns (tableOf ps (now (tops .entry)) (now (bottoms .entry)) (now (marks .entry))) (now (tops .exit)) (now (marks .exit))) ⌝ }
+// Puts a job's highest layout in the place of its top, and a mark at a job that asks nobody; answers the layout.
+pub fn set_highest(
+    tree: &[u16; TREE],
+    tops: &mut [u16],
+    marks: &mut [u8],
+    job: JobNumber,
+    bottom: LayoutNumber,
+) -> LayoutNumber
+    requires { ⌜ job .0 < length (now tops) ⌝ }
+    requires { ⌜ length (now marks) ≡ length (now tops) ⌝ }
+    requires { ⌜ bottom .0 < layoutLimit ⌝ }
+    ensures { λ r. ⌜ HighestSet (now (tree .entry)) (bottom .0) (job .0) (now (tops .entry)) (now (marks .entry)) (r .0) (now (tops .exit)) (now (marks .exit)) ⌝ }
 {
-    let mut j = 0;
-    while j < tops.len() {
-        let job = JobNumber(j as u16);
-        let highest = highest_of(tree, top_of(tops, job), bottom_of(bottoms, job));
-        let mark = quiet_mark(marks[j], highest);
-        tops[j] = highest.0;
-        marks[j] = mark;
-        j += 1;
-    }
+    let at = job.0 as usize;
+    let highest = highest_of(tree, top_of(tops, job), bottom);
+    let mark = quiet_mark(marks[at], highest);
+    tops[at] = highest.0;
+    marks[at] = mark;
+    highest
 }
