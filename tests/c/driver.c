@@ -1,5 +1,5 @@
 /* Calls the whole run as a press driver does: a plan, the longest plan, each refusal, outputs about the length asked for, no input. Expected
-   lines are document 01's, as 2026-01 and 2026-02 changed them, or worked out by hand. */
+   lines are document 01's, as 2026-01, 2026-02 and 2026-04 changed them, or worked out by hand. */
 #include <stdio.h>
 #include <stdlib.h>
 #include <string.h>
@@ -33,11 +33,20 @@ static const struct example examples[] = {
     {"no input", "", "1E070001\n"},
     {"a line cut off", "01FFFF\n03000100", "1E010002\n"},
     {"a lower-case digit", "01ffff\n", "1E010001\n"},
-    {"a job before any layout", "0200000000\n", "1E020001\n"},
-    {"a layout after a job", "01FFFF\n0200000000\n010000\n", "1E020003\n"},
+    {"a job before any layout", "0200010001\n01FFFF\n010000\n0300020001\n", "120000\n1F0000000100000001\n"},
+    {"a layout added at the bottom",
+     "01FFFF\n0200000001\n0400000000\n0200010001\n010000\n0300020003\n",
+     "110000000200010001\n120001\n1F0001000100000005\n"},
+    {"an end without a layout", "0200000000\n0300000001\n", "1E020002\n"},
+    {"a line after the end", "01FFFF\n0300010000\n010000\n", "1E020003\n"},
     {"a wrong parent", "01FFFF\n010001\n", "1E040002\n"},
-    {"an unknown bottom", "01FFFF\n0200000001\n", "1E050002\n"},
-    {"a bottom above its top", "01FFFF\n010000\n0200010000\n", "1E060003\n"},
+    {"an unknown bottom", "01FFFF\n0200000001\n0300010001\n", "1E050002\n"},
+    {"a bottom above its top", "01FFFF\n010000\n0200010000\n0300020001\n", "1E060003\n"},
+    {"a wrong job behind a layout between jobs",
+     "01FFFF\n0200000000\n010000\n0200010000\n0300020002\n",
+     "1E060004\n"},
+    {"a wrong job in front of the last layout", "01FFFF\n0200010000\n010000\n0300020001\n", "1E060002\n"},
+    {"a wrong parent after a wrong job", "01FFFF\n0200010000\n010005\n0300020001\n", "1E040003\n"},
     {"wrong counts", "01FFFF\n0300020000\n", "1E070002\n"},
 };
 

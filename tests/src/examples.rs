@@ -1,7 +1,7 @@
 //! Document 01's own tables ("Tables to try" and the bakehouse table of "The plan"), with what it says
-//! of each as changed by 2026-01 and 2026-02, the tables on which wrong planners fail, and shared
-//! stretches. Pairs, both ends of what they share, visits and stretches are worked out by hand from
-//! the definitions.
+//! of each as changed by 2026-01, 2026-02 and 2026-04, the tables on which wrong planners fail, and
+//! shared stretches. Pairs, both ends of what they share, visits, refusals and stretches are worked
+//! out by hand from the definitions.
 
 use crate::reference::{Refusal, Table, ABSENT};
 
@@ -270,13 +270,13 @@ pub const BAKEHOUSE_ORDER: [usize; 5] = [4, 0, 1, 2, 3];
 pub const BAKEHOUSE_LOOKUPS: [(usize, u32); 3] = [(4, 7), (1, 7), (2, 11)];
 
 /// Bytes, and all that is printed for them: the bakehouse table, no bytes at all, the two marked tables
-/// that are refused, a solo job that has its place and its slot, and two jobs of which the highest and
-/// the deepest shared layout differ.
-pub const PRINTINGS: [(&[u8], &[u8]); 6] = [
+/// that are refused, a solo job that has its place and its slot, two jobs of which the highest and the
+/// deepest shared layout differ, a job before any layout, and a pair on a layout that stands last.
+pub const PRINTINGS: [(&[u8], &[u8]); 8] = [
     (BAKEHOUSE_BYTES, BAKEHOUSE_PLAN),
     (b"", b"1E070001\n"),
     (b"01FFFF\n010001\n", b"1E040002\n"),
-    (b"01FFFF\n010000\n0200010000\n", b"1E060003\n"),
+    (b"01FFFF\n010000\n0200010000\n0300020001\n", b"1E060003\n"),
     (
         b"01FFFF\n010000\n0400010001\n0200010001\n0200010001\n0300020003\n",
         b"120000\n110001000200010001\n1F0001000100000005\n",
@@ -284,6 +284,15 @@ pub const PRINTINGS: [(&[u8], &[u8]); 6] = [
     (
         b"01FFFF\n010000\n010001\n0200000002\n0200000002\n0300030002\n",
         b"110000000100010002\n1F0001000000000001\n",
+    ),
+    (
+        b"0200010001\n01FFFF\n010000\n0300020001\n",
+        b"120000\n1F0000000100000001\n",
+    ),
+    // Order 0, 2, 1: the solo job 0-0 comes last. Job 0 asks for three slots of four.
+    (
+        b"01FFFF\n0200000001\n0400000000\n0200010001\n010000\n0300020003\n",
+        b"110000000200010001\n120001\n1F0001000100000005\n",
     ),
 ];
 
@@ -368,8 +377,8 @@ const fn refused(number: u16, place: u16) -> Option<Refusal> {
     Some(Refusal { number, place })
 }
 
-/// Short inputs with the refusal that document 01 gives them.
-pub const READINGS: [Reading; 47] = [
+/// Short inputs with the refusal that document 01, as 2026-04 changed it, gives them.
+pub const READINGS: [Reading; 67] = [
     (b"", refused(7, 1)),
     (b"\n", refused(1, 1)),
     (b"01FFFF\n0300010000\n", None),
@@ -400,27 +409,63 @@ pub const READINGS: [Reading; 47] = [
     (b"01FFFF\n\n0300010000\n", refused(1, 2)),
     (b"01FFFF\n0300010000\n\n", refused(1, 3)),
     (b"\xEF\xBB\xBF01FFFF\n", refused(1, 1)),
-    // 2: a line after the end, a layout after a job, a job or end before any layout.
-    (b"0200000000\n", refused(2, 1)),
-    (b"0400000000\n", refused(2, 1)),
-    (b"0300000000\n", refused(2, 1)),
-    (b"01FFFF\n0200000000\n010000\n", refused(2, 3)),
-    (b"01FFFF\n0400000000\n01FFFF\n", refused(2, 3)),
+    // 2: a line after the end; an end without a layout, whatever its counts and whatever comes after.
     (b"01FFFF\n0300010000\n010000\n", refused(2, 3)),
     (b"01FFFF\n0300010000\n0200090009\n", refused(2, 3)),
     (b"01FFFF\n0300010000\n0300010000\n", refused(2, 3)),
-    // 4: a wrong parent.
+    (b"0300000000\n", refused(2, 1)),
+    (b"0300010000\n01FFFF\n", refused(2, 1)),
+    (b"0300000000\nzz", refused(2, 1)),
+    (b"0200000000\n0300000001\n", refused(2, 2)),
+    (b"0400000000\n0300010002\n", refused(2, 2)),
+    // A job before any layout, and a layout after a job.
+    (b"0200000000\n01FFFF\n0300010001\n", None),
+    (b"0400010001\n01FFFF\n010000\n0300020001\n", None),
+    (b"01FFFF\n0200000001\n010000\n0300020001\n", None),
+    (b"0200000000\n", refused(7, 2)),
+    (b"01FFFF\n0200000000\n010000\n", refused(7, 4)),
+    // 4: a wrong parent, by the layouts so far; the first layout is layout 0 wherever it stands.
     (b"010000\n", refused(4, 1)),
     (b"01FFFF\n01FFFF\n", refused(4, 2)),
     (b"01FFFF\n010001\n", refused(4, 2)),
-    // 5 and 6: a top or bottom that is no layout so far; a bottom not at or below its top.
-    (b"01FFFF\n0200010000\nzz\n", refused(5, 2)),
-    (b"01FFFF\n0400000001\n", refused(5, 2)),
-    (b"01FFFF\n010000\n010000\n0200010002\n", refused(6, 4)),
-    (b"01FFFF\n010000\n0400010000\n", refused(6, 3)),
-    // 7: an end with wrong counts, after which nothing is looked at; bytes that stop with no end
-    // line.
+    (b"01FFFF\n010002\n010000\n0300030000\n", refused(4, 2)),
+    (b"0200000000\n010000\n", refused(4, 2)),
+    (b"01FFFF\n0400000000\n01FFFF\n", refused(4, 3)),
+    // 5 and 6: a top or bottom that is no layout; a bottom not at or below its top. Both are found at
+    // the end line and told by the job's own line.
+    (b"01FFFF\n0200010000\n0300010001\n", refused(5, 2)),
+    (b"01FFFF\n0400000001\n0300010001\n", refused(5, 2)),
+    (b"020000FFFF\n01FFFF\n0300010001\n", refused(5, 1)),
+    (
+        b"01FFFF\n010000\n010000\n0200010002\n0300030001\n",
+        refused(6, 4),
+    ),
+    (b"01FFFF\n010000\n0400010000\n0300020001\n", refused(6, 3)),
+    (
+        b"01FFFF\n0200000000\n010000\n0200010000\n0300020002\n",
+        refused(6, 4),
+    ),
+    (b"01FFFF\n0200010000\n010000\n0300020001\n", refused(6, 2)),
+    // The first wrong job, and in it 5 before 6: where its bottom is no layout, its top is not above it.
+    (
+        b"01FFFF\n010000\n0200010000\n0200050000\n0300020002\n",
+        refused(6, 3),
+    ),
+    (
+        b"01FFFF\n010000\n0200050000\n0200010000\n0300020002\n",
+        refused(5, 3),
+    ),
+    (b"01FFFF\n010000\n0200010002\n0300020001\n", refused(5, 3)),
+    // Faults on any line before the end come first, faults on later lines do not.
+    (b"01FFFF\n0200010000\nzz\n", refused(1, 3)),
+    (b"01FFFF\n0200010000\n010005\n0300020001\n", refused(4, 3)),
+    (b"01FFFF\n0200010000\n0300010001\nzz", refused(5, 2)),
+    (b"01FFFF\n0200010000\n0300010001\n010000\n", refused(5, 2)),
+    // 7: an end with wrong counts, before 5 and 6, after which nothing is looked at; bytes that stop
+    // with no end line.
     (b"01FFFF\n0300010001\nzz", refused(7, 2)),
     (b"01FFFF\n0400000000\n0300010000\n", refused(7, 3)),
+    (b"01FFFF\n0200010000\n0300010002\n", refused(7, 3)),
     (b"01FFFF\n0200000000\n", refused(7, 3)),
+    (b"01FFFF\n0200010000\n", refused(7, 3)),
 ];

@@ -1,11 +1,12 @@
 //! The whole run beside the reference (document 01, "The plan" and "What each operation turns
-//! away"): the length, every byte of the output, and the bytes beyond it. The run is a parameter,
-//! so that the checks can be tried by themselves.
+//! away"; 2026-04, layouts after jobs): the length, every byte of the output, and the bytes beyond
+//! it. The run is a parameter, so that the checks can be tried by themselves.
 
 use crate::bare_sheet::Search;
 use crate::examples::{marked, telling, PRINTINGS, READINGS};
 use crate::lent::Lent;
 use crate::made::damage::{damaged, damaged_often, nearly_right_lines, DAMAGES};
+use crate::made::mixtures::any_lines;
 use crate::made::tables::{table, table_of_size, Size};
 use crate::made::Generator;
 use crate::reference::run::run_into;
@@ -46,7 +47,7 @@ pub fn run(report: &mut Report, runner: Runner) {
         check(runner, bytes, OUTPUT_BYTES, &mut Generator::new(0))
     });
     report.made("made tables", 10_000, |generator| {
-        let bytes = table_lines(&table(generator)).concat();
+        let bytes = any_lines(&table(generator), generator).concat();
         check(runner, &bytes, room(generator), generator)
     });
     report.made("damaged tables", 20_000, |generator| {
@@ -58,7 +59,7 @@ pub fn run(report: &mut Report, runner: Runner) {
             layouts: generator.choice(&[1, 2, LAYOUT_LIMIT, LAYOUT_LIMIT]),
             jobs: generator.choice(&[JOB_LIMIT, JOB_LIMIT, JOB_LIMIT - 1]),
         };
-        let bytes = table_lines(&table_of_size(size, generator)).concat();
+        let bytes = any_lines(&table_of_size(size, generator), generator).concat();
         check(runner, &bytes, room(generator), generator)
     });
     report.made("short outputs", 2_000, |generator| {

@@ -7,13 +7,14 @@ use mathlib.Core.List.{List, [], _∷_}
 use native.Mathlib.Omega.{arith}
 use native.Mathlib.Nat.{zero-add, suc-add}
 use lib.ListN.{length, getD, take, drop}
-use lib.Seq.{take-nil, getD-drop}
+use lib.Seq.{take-nil}
 use lib.Dec.{eqb}
 use borrow.Author.Tests.{eqb-true, lt-ltb, le-ltb}
 use Rattle.model.specs.Lists.{allOf}
 use Rattle.model.specs.Table.{isDigit, kindOf, fieldAt, layoutFrame, jobFrame, soloFrame, endFrame, firstLine, frameOf}
+use Rattle.laws.specs.Booleans.{one-answer}
 use Rattle.frame.specs.Fields.{FieldRead, spells, KindRead, endsAfter}
-use Rattle.frame.specs.Lines.{digitLine, end-within, short-line, longFrame, long-line, no-frame}
+use Rattle.frame.specs.Lines.{digitLine, end-within, digit-line-no-end, short-line, longFrame, long-line, no-frame}
 
 -- ---- the digits of a line
 
@@ -43,17 +44,13 @@ long-digits : (s : List ℕ) → endsAfter 10 s ≡ true → digitLine 10 s ≡ 
 unfolding digitLine
 long-digits s e = rw (e, and-true, digits-of 6 4 s, digits-of 2 4 s, and-assoc)
 
-end-no-field : (l : List ℕ) → getD l 0 0 ≡ 10 → allOf isDigit (take 4 l) ≡ false
-unfolding allOf isDigit
-end-no-field [] e = absurd (omega arith)
-end-no-field (b ∷ l) e = rw e
-
 -- 0A is no digit, so no line of 10 digits has it after 6
 no-long : (s : List ℕ) → endsAfter 6 s ≡ true → digitLine 10 s ≡ false
-unfolding digitLine
-no-long s e =
-    let wrong = end-no-field (drop 6 s) (getD-drop 6 s 0 0 ∙ eqb-true (getD s 6 0) 10 e) in
-    rw (digits-of 6 4 s, wrong, and-false (allOf isDigit (take 6 s)))
+no-long s e = go (digitLine 10 s) refl
+  where
+    go : (t : Bool) → digitLine 10 s ≡ t → t ≡ false
+    go true d = absurd (one-answer e (digit-line-no-end 10 s d 6 (omega arith)))
+    go false d = refl
 
 -- ---- what a field that was read tells
 

@@ -1,14 +1,15 @@
 -- What the bytes at fixed positions tell of the first line: n digits and then 0A are a line, and where neither 6 nor 10 digits stand
 -- before a 0A, the first line is no frame, however long it is.
-use Prim.Native.Nat.{ℕ, zero, suc, _+_, _<_, _≤_}
+use Prim.Native.Nat.{ℕ, zero, suc, _+_, _-_, _<_, _≤_}
 use mathlib.Core.Path.{_≡_, refl, sym, ap, subst, _∙_}
+use mathlib.Core.Logic.{_⊎_, inl, inr, ⊎-elim}
 use mathlib.Core.Bool.{Bool, true, false, cond, _||_, _&&_, true≢false, and-true, and-false, and-eq-true-iff}
 use mathlib.Core.Option.{Option, none, some}
 use mathlib.Core.List.{List, [], _∷_}
-use native.Mathlib.Nat.{zero-add, suc-add, le-of-lt}
+use native.Mathlib.Nat.{zero-add, suc-add, le-of-lt, le-refl}
 use native.Mathlib.Omega.{arith}
-use lib.ListN.{length, getD, take, drop}
-use lib.Seq.{take-nil, take-take, length-take-le}
+use lib.ListN.{length, getD, take, drop, length-drop}
+use lib.Seq.{take-nil, take-take, take-all, length-take-le}
 use lib.Dec.{eqb, leb}
 use borrow.Author.Tests.{eqb-true, eq-eqb, ne-eqb}
 use Rattle.model.specs.Lists.{allOf}
@@ -19,6 +20,7 @@ use Rattle.model.specs.declared.Refusal.{Refusal}
 use Rattle.model.specs.declared.FrameRead.{FrameRead}
 use Rattle.model.specs.declared.FrameRead.the-variants.{Read, Refused}
 use Rattle.model.specs.Table as Table
+use Rattle.frame.specs.Fields.{endsAfter}
 
 -- how many bytes a frame's line has, its 0A among them
 abbrev pub width : Table.Frame → ℕ
@@ -31,6 +33,10 @@ width (endFrame n m) = 11
 unfoldable pub digitLine : ℕ → List ℕ → Bool
 digitLine n s = allOf isDigit (take n s) && eqb (getD s n 0) 10
 
+-- a part to the end is what is left
+pub rest : (s : List ℕ) (at : ℕ) → take (length s - at) (drop at s) ≡ drop at s
+rest s at = take-all (length s - at) (drop at s) (rw length-drop (le-refl (length s - at)))
+
 -- ---- lines and 0A
 
 -- 0A is no digit
@@ -38,6 +44,15 @@ digit-not-end : (b : ℕ) → isDigit b ≡ true → eqb b 10 ≡ false
 unfolding isDigit
 digit-not-end b e =
     ne-eqb b 10 (λ q. true≢false (sym e ∙ ap (λ (x : ℕ). leb 48 x && leb x 57 || leb 65 x && leb x 70) q))
+
+-- none of n digits is 0A
+digits-no-end : (n i : ℕ) (s : List ℕ) → i < n → allOf isDigit (take n s) ≡ true → endsAfter i s ≡ false
+unfolding allOf
+digits-no-end zero i s h d = absurd (omega arith)
+digits-no-end (suc n) i [] h d = refl
+digits-no-end (suc n) zero (b ∷ bs) h d = digit-not-end b (and-eq-true-iff (isDigit b) (allOf isDigit (take n bs)) .0 d .0)
+digits-no-end (suc n) (suc i) (b ∷ bs) h d =
+    digits-no-end n i bs (omega arith) (and-eq-true-iff (isDigit b) (allOf isDigit (take n bs)) .0 d .1)
 
 -- a line of n digits at the front is the first line, and the other lines are those after it
 lines-of-digits : (n : ℕ) (s : List ℕ) → allOf isDigit (take n s) ≡ true → getD s n 0 ≡ 10 → lines s ≡ terminated (take n s) ∷ lines (drop (suc n) s)
@@ -117,9 +132,17 @@ other-digits l h k = rw (ne-eqb (length l) 6 h, ne-eqb (length l) 10 k) (simp an
 -- ---- a line of n digits at the front
 
 module _ (n : ℕ) (s : List ℕ) (h : digitLine n s ≡ true) where
-  pub digit-line-within : n < length s
+  digit-line-end : endsAfter n s ≡ true
   unfolding digitLine
-  digit-line-within = end-within s n (eqb-true (getD s n 0) 10 (and-eq-true-iff (allOf isDigit (take n s)) (eqb (getD s n 0) 10) .0 h .1))
+  digit-line-end = and-eq-true-iff (allOf isDigit (take n s)) (eqb (getD s n 0) 10) .0 h .1
+
+  -- no 0A stands before its end
+  pub digit-line-no-end : (i : ℕ) → i < n → endsAfter i s ≡ false
+  unfolding digitLine
+  digit-line-no-end i k = digits-no-end n i s k (and-eq-true-iff (allOf isDigit (take n s)) (eqb (getD s n 0) 10) .0 h .0)
+
+  pub digit-line-within : n < length s
+  digit-line-within = end-within s n (eqb-true (getD s n 0) 10 digit-line-end)
 
   -- the lines after it
   digit-line-first : lines s ≡ firstLine s ∷ lines (drop (suc n) s)
@@ -184,9 +207,6 @@ pub record NextLine (s : List ℕ) (f : Table.Frame) : Type 0 where
   pub within : width f ≤ length s
   pub after : lines s ≡ firstLine s ∷ lines (drop (width f) s)
 
-next-of : (n : ℕ) (s : List ℕ) (f : Table.Frame) → digitLine n s ≡ true → width f ≡ suc n → NextLine s f
-next-of n s f h e = record { within = rw e (digit-line-within n s h); after = rw e (digit-line-first n s h) }
-
 short-width : (t : Bool) (p : ℕ) (f : Table.Frame) → cond t (some (layoutFrame p)) none ≡ some f → width f ≡ 7
 short-width true p f e = let q : layoutFrame p ≡ f = cc in ap width (sym q)
 short-width false p f e = let z : _≡_ {A = ℕ} 0 1 = cc in absurd (omega arith)
@@ -198,17 +218,38 @@ long-width false true v p q f e = let q : soloFrame p q ≡ f = cc in ap width (
 long-width false false true p q f e = let q : endFrame p q ≡ f = cc in ap width (sym q)
 long-width false false false p q f e = let z : _≡_ {A = ℕ} 0 1 = cc in absurd (omega arith)
 
-pub next-line : (s : List ℕ) (f : Table.Frame) → frameOf (firstLine s) ≡ some f → NextLine s f
-next-line s f e = short (digitLine 6 s) refl
+-- the line of f is n digits and 0A
+record DigitsOf (n : ℕ) (s : List ℕ) (f : Table.Frame) : Type 0 where
+  digits : digitLine n s ≡ true
+  wide : width f ≡ suc n
+
+-- that of any frame is 6 or 10
+frame-digits : (s : List ℕ) (f : Table.Frame) → frameOf (firstLine s) ≡ some f → DigitsOf 6 s f ⊎ DigitsOf 10 s f
+frame-digits s f e = short (digitLine 6 s) refl
   where
-    long : (t : Bool) → digitLine 6 s ≡ false → digitLine 10 s ≡ t → NextLine s f
+    long : (t : Bool) → digitLine 6 s ≡ false → digitLine 10 s ≡ t → DigitsOf 6 s f ⊎ DigitsOf 10 s f
     long true a b =
-        next-of 10 s f b (long-width (eqb (kindOf s) 2) (eqb (kindOf s) 4) (eqb (kindOf s) 3) (fieldAt 2 s) (fieldAt 6 s) f (sym (long-line s b) ∙ e))
+        inr (record { digits = b; wide = long-width (eqb (kindOf s) 2) (eqb (kindOf s) 4) (eqb (kindOf s) 3) (fieldAt 2 s) (fieldAt 6 s) f (sym (long-line s b) ∙ e) })
     long false a b = let n = no-frame s a b in let z : _≡_ {A = ℕ} 0 1 = cc in absurd (omega arith)
 
-    short : (t : Bool) → digitLine 6 s ≡ t → NextLine s f
-    short true a = next-of 6 s f a (short-width (eqb (kindOf s) 1) (fieldAt 2 s) f (sym (short-line s a) ∙ e))
+    short : (t : Bool) → digitLine 6 s ≡ t → DigitsOf 6 s f ⊎ DigitsOf 10 s f
+    short true a =
+        inl (record { digits = a; wide = short-width (eqb (kindOf s) 1) (fieldAt 2 s) f (sym (short-line s a) ∙ e) })
     short false a = long (digitLine 10 s) a refl
+
+next-of : (n : ℕ) (s : List ℕ) (f : Table.Frame) → DigitsOf n s f → NextLine s f
+next-of n s f d = record { within = rw (d .wide) (digit-line-within n s (d .digits)); after = rw (d .wide) (digit-line-first n s (d .digits)) }
+
+pub next-line : (s : List ℕ) (f : Table.Frame) → frameOf (firstLine s) ≡ some f → NextLine s f
+next-line s f e = ⊎-elim (next-of 6 s f) (next-of 10 s f) (frame-digits s f e)
+
+-- where a frame's line has its 0A tells how wide it is
+pub width-by-end : (s : List ℕ) (f : Table.Frame) → frameOf (firstLine s) ≡ some f → width f ≡ cond (endsAfter 6 s) 7 11
+width-by-end s f e =
+    ⊎-elim
+    (λ d. rw (digit-line-end 6 s (d .digits)) (d .wide))
+    (λ d. rw (digit-line-no-end 10 s (d .digits) 6 (omega arith)) (d .wide))
+    (frame-digits s f e)
 
 lead-first : (b : ℕ) (ls : List Line) → (rest : List Line) × (lead b ls ≡ firstOf (lead b ls) ∷ rest)
 unfolding lead

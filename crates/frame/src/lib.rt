@@ -80,7 +80,7 @@ fn kind_of(s: &[u8]) -> u8
 }
 
 // Byte 0A stands after n bytes.
-fn ends_after(s: &[u8], n: usize) -> bool
+pub fn ends_after(s: &[u8], n: usize) -> bool
     ensures { λ r. ⌜ r ≡ endsAfter n (now (s .entry)) ⌝ }
 {
     if s.len() <= n {

@@ -1,5 +1,5 @@
 -- The worked tables (docs/RULES.md, 15): document 01's "Tables to try" that are marked ◆, planned as 2026-01 and 2026-02 ask, tables that tell wrong planners, what is
--- printed for some, and worked stretches: a table of examples, one of printings, one of stretches, and one fact of the three.
+-- printed for some and for tables that 2026-04 newly accepts or refuses, and worked stretches: a table of examples, one of printings, one of stretches, and one fact of the three.
 use Prim.Native.Nat.{ℕ}
 use mathlib.Core.Path.{_≡_, refl}
 use mathlib.Core.List.{List, [], _∷_, _++_, map, flatMap, headD}
@@ -12,7 +12,7 @@ use Rattle.model.specs.Order.{earlier, runningOrder, place, leftward, sl
 use Rattle.model.specs.Greedy.{Pass, pair, single, greedyStep, greedySteps, greedy, compatible, passes}
 use Rattle.model.specs.Visits.{levelsFrom, levels, cellVisits, visits, asksFor, askedSlots, askedFrom, askedTo, lookupVisits, passVisits, cellCount}
 use Rattle.model.specs.Planning.{workCells, lentVerdict, jobsVerdict, planVerdict, partnerIn, pairCount, singleCount, partners, upper, upperLayouts, printed, printedLayouts, pairs, singles}
-use Rattle.model.specs.Table.{isDigit, digitValue, numberAfter, lead, lines, frameOfKind, frameOf, isEnd, outOfOrder, contentVerdict, frameVerdict, extended, unlessRefused, readFrame, readLines, readTable}
+use Rattle.model.specs.Table.{isDigit, digitValue, numberAfter, lead, lines, frameOfKind, frameOf, isEnd, endWithoutLayout, onItsLine, contentVerdict, frameVerdict, extended, withOwnLine, unlessRefused, readFrame, readLines, readTable}
 use Rattle.model.specs.Output.{digit, hex, pairLine, singleLine, totalsLine, passLine, planBytes, refusalBytes, readingBytes, runBytes}
 use Rattle.model.specs.Stretch.{agreement, startsIn, leading, stretchOf, begun, numbersOf, dropped, kept}
 
@@ -125,73 +125,88 @@ examples =
 spelled : List ℕ → List ℕ
 spelled ds = map (λ (d : ℕ). getD (48 ∷ 49 ∷ 50 ∷ 51 ∷ 52 ∷ 53 ∷ 54 ∷ 55 ∷ 56 ∷ 57 ∷ 65 ∷ 66 ∷ 67 ∷ 68 ∷ 69 ∷ 70 ∷ []) d 0) ds ++ 10 ∷ []
 
+-- lines of a table and of a plan, by numbers of one digit
+firstLayout : List ℕ
+firstLayout = 0 ∷ 1 ∷ 15 ∷ 15 ∷ 15 ∷ 15 ∷ []
+
+layoutUnder : ℕ → List ℕ
+layoutUnder p = 0 ∷ 1 ∷ 0 ∷ 0 ∷ 0 ∷ p ∷ []
+
+jobOf : ℕ → ℕ → List ℕ
+jobOf t b = 0 ∷ 2 ∷ 0 ∷ 0 ∷ 0 ∷ t ∷ 0 ∷ 0 ∷ 0 ∷ b ∷ []
+
+soloOf : ℕ → ℕ → List ℕ
+soloOf t b = 0 ∷ 4 ∷ 0 ∷ 0 ∷ 0 ∷ t ∷ 0 ∷ 0 ∷ 0 ∷ b ∷ []
+
+endOf : ℕ → ℕ → List ℕ
+endOf n m = 0 ∷ 3 ∷ 0 ∷ 0 ∷ 0 ∷ n ∷ 0 ∷ 0 ∷ 0 ∷ m ∷ []
+
+pairOf : ℕ → ℕ → ℕ → ℕ → List ℕ
+pairOf i j u l = 1 ∷ 1 ∷ 0 ∷ 0 ∷ 0 ∷ i ∷ 0 ∷ 0 ∷ 0 ∷ j ∷ 0 ∷ 0 ∷ 0 ∷ u ∷ 0 ∷ 0 ∷ 0 ∷ l ∷ []
+
+singleOf : ℕ → List ℕ
+singleOf i = 1 ∷ 2 ∷ 0 ∷ 0 ∷ 0 ∷ i ∷ []
+
+-- pairs, singles, and the last two digits of the cell count
+totalsOf : ℕ → ℕ → ℕ → ℕ → List ℕ
+totalsOf p s c d = 1 ∷ 15 ∷ 0 ∷ 0 ∷ 0 ∷ p ∷ 0 ∷ 0 ∷ 0 ∷ s ∷ 0 ∷ 0 ∷ 0 ∷ 0 ∷ 0 ∷ 0 ∷ c ∷ d ∷ []
+
+refusalOf : ℕ → ℕ → List ℕ
+refusalOf k p = 1 ∷ 14 ∷ 0 ∷ k ∷ 0 ∷ 0 ∷ 0 ∷ p ∷ []
+
 -- a table's lines, and all that is printed for them
 record Printing : Type 0 where
   lines : List (List ℕ)
   spells : List (List ℕ)
 
--- the bakehouse table, no bytes at all, the two refused tables, F 0; solo 1-1, 1-1, 1-1: a solo job has its place and its slot, so W is 4 and the lookup of
--- job 1 visits 5 cells; and F 0 1; 0-2, 0-2: what the two share runs from 1 to 2
 printings : List Printing
 printings =
+    -- the bakehouse table, no bytes at all, the two refused tables, F 0; solo 1-1, 1-1, 1-1: a solo job has its place and its slot, so W is 4 and the lookup of
+    -- job 1 visits 5 cells; and F 0 1; 0-2, 0-2: what the two share runs from 1 to 2
     record {
       lines =
-          (0 ∷ 1 ∷ 15 ∷ 15 ∷ 15 ∷ 15 ∷ [])
-          ∷ (0 ∷ 1 ∷ 0 ∷ 0 ∷ 0 ∷ 0 ∷ [])
-          ∷ (0 ∷ 1 ∷ 0 ∷ 0 ∷ 0 ∷ 0 ∷ [])
-          ∷ (0 ∷ 1 ∷ 0 ∷ 0 ∷ 0 ∷ 1 ∷ [])
-          ∷ (0 ∷ 2 ∷ 0 ∷ 0 ∷ 0 ∷ 0 ∷ 0 ∷ 0 ∷ 0 ∷ 3 ∷ [])
-          ∷ (0 ∷ 2 ∷ 0 ∷ 0 ∷ 0 ∷ 1 ∷ 0 ∷ 0 ∷ 0 ∷ 3 ∷ [])
-          ∷ (0 ∷ 2 ∷ 0 ∷ 0 ∷ 0 ∷ 2 ∷ 0 ∷ 0 ∷ 0 ∷ 2 ∷ [])
-          ∷ (0 ∷ 2 ∷ 0 ∷ 0 ∷ 0 ∷ 0 ∷ 0 ∷ 0 ∷ 0 ∷ 2 ∷ [])
-          ∷ (0 ∷ 2 ∷ 0 ∷ 0 ∷ 0 ∷ 3 ∷ 0 ∷ 0 ∷ 0 ∷ 3 ∷ [])
-          ∷ (0 ∷ 3 ∷ 0 ∷ 0 ∷ 0 ∷ 4 ∷ 0 ∷ 0 ∷ 0 ∷ 5 ∷ [])
-          ∷ [];
-      spells =
-          (1 ∷ 1 ∷ 0 ∷ 0 ∷ 0 ∷ 4 ∷ 0 ∷ 0 ∷ 0 ∷ 0 ∷ 0 ∷ 0 ∷ 0 ∷ 3 ∷ 0 ∷ 0 ∷ 0 ∷ 3 ∷ [])
-          ∷ (1 ∷ 2 ∷ 0 ∷ 0 ∷ 0 ∷ 1 ∷ [])
-          ∷ (1 ∷ 1 ∷ 0 ∷ 0 ∷ 0 ∷ 2 ∷ 0 ∷ 0 ∷ 0 ∷ 3 ∷ 0 ∷ 0 ∷ 0 ∷ 2 ∷ 0 ∷ 0 ∷ 0 ∷ 2 ∷ [])
-          ∷ (1 ∷ 15 ∷ 0 ∷ 0 ∷ 0 ∷ 2 ∷ 0 ∷ 0 ∷ 0 ∷ 1 ∷ 0 ∷ 0 ∷ 0 ∷ 0 ∷ 0 ∷ 0 ∷ 1 ∷ 9 ∷ [])
-          ∷ [];
+          firstLayout ∷ layoutUnder 0 ∷ layoutUnder 0 ∷ layoutUnder 1
+          ∷ jobOf 0 3 ∷ jobOf 1 3 ∷ jobOf 2 2 ∷ jobOf 0 2 ∷ jobOf 3 3 ∷ endOf 4 5 ∷ [];
+      spells = pairOf 4 0 3 3 ∷ singleOf 1 ∷ pairOf 2 3 2 2 ∷ totalsOf 2 1 1 9 ∷ [];
     }
-    ∷ record { lines = []; spells = (1 ∷ 14 ∷ 0 ∷ 7 ∷ 0 ∷ 0 ∷ 0 ∷ 1 ∷ []) ∷ [] }
+    ∷ record { lines = []; spells = refusalOf 7 1 ∷ [] }
+    ∷ record { lines = firstLayout ∷ layoutUnder 1 ∷ []; spells = refusalOf 4 2 ∷ [] }
+    ∷ record { lines = firstLayout ∷ layoutUnder 0 ∷ jobOf 1 0 ∷ endOf 2 1 ∷ []; spells = refusalOf 6 3 ∷ [] }
     ∷ record {
-      lines = (0 ∷ 1 ∷ 15 ∷ 15 ∷ 15 ∷ 15 ∷ []) ∷ (0 ∷ 1 ∷ 0 ∷ 0 ∷ 0 ∷ 1 ∷ []) ∷ [];
-      spells = (1 ∷ 14 ∷ 0 ∷ 4 ∷ 0 ∷ 0 ∷ 0 ∷ 2 ∷ []) ∷ [];
+      lines = firstLayout ∷ layoutUnder 0 ∷ soloOf 1 1 ∷ jobOf 1 1 ∷ jobOf 1 1 ∷ endOf 2 3 ∷ [];
+      spells = singleOf 0 ∷ pairOf 1 2 1 1 ∷ totalsOf 1 1 0 5 ∷ [];
     }
     ∷ record {
-      lines = (0 ∷ 1 ∷ 15 ∷ 15 ∷ 15 ∷ 15 ∷ []) ∷ (0 ∷ 1 ∷ 0 ∷ 0 ∷ 0 ∷ 0 ∷ []) ∷ (0 ∷ 2 ∷ 0 ∷ 0 ∷ 0 ∷ 1 ∷ 0 ∷ 0 ∷ 0 ∷ 0 ∷ []) ∷ [];
-      spells = (1 ∷ 14 ∷ 0 ∷ 6 ∷ 0 ∷ 0 ∷ 0 ∷ 3 ∷ []) ∷ [];
+      lines = firstLayout ∷ layoutUnder 0 ∷ layoutUnder 1 ∷ jobOf 0 2 ∷ jobOf 0 2 ∷ endOf 3 2 ∷ [];
+      spells = pairOf 0 1 1 2 ∷ totalsOf 1 0 0 1 ∷ [];
     }
+    -- layouts after jobs (2026-04): a job before any layout, and a pair on a layout that stands last
+    ∷ record { lines = jobOf 1 1 ∷ firstLayout ∷ layoutUnder 0 ∷ endOf 2 1 ∷ []; spells = singleOf 0 ∷ totalsOf 0 1 0 1 ∷ [] }
     ∷ record {
-      lines =
-          (0 ∷ 1 ∷ 15 ∷ 15 ∷ 15 ∷ 15 ∷ [])
-          ∷ (0 ∷ 1 ∷ 0 ∷ 0 ∷ 0 ∷ 0 ∷ [])
-          ∷ (0 ∷ 4 ∷ 0 ∷ 0 ∷ 0 ∷ 1 ∷ 0 ∷ 0 ∷ 0 ∷ 1 ∷ [])
-          ∷ (0 ∷ 2 ∷ 0 ∷ 0 ∷ 0 ∷ 1 ∷ 0 ∷ 0 ∷ 0 ∷ 1 ∷ [])
-          ∷ (0 ∷ 2 ∷ 0 ∷ 0 ∷ 0 ∷ 1 ∷ 0 ∷ 0 ∷ 0 ∷ 1 ∷ [])
-          ∷ (0 ∷ 3 ∷ 0 ∷ 0 ∷ 0 ∷ 2 ∷ 0 ∷ 0 ∷ 0 ∷ 3 ∷ [])
-          ∷ [];
-      spells =
-          (1 ∷ 2 ∷ 0 ∷ 0 ∷ 0 ∷ 0 ∷ [])
-          ∷ (1 ∷ 1 ∷ 0 ∷ 0 ∷ 0 ∷ 1 ∷ 0 ∷ 0 ∷ 0 ∷ 2 ∷ 0 ∷ 0 ∷ 0 ∷ 1 ∷ 0 ∷ 0 ∷ 0 ∷ 1 ∷ [])
-          ∷ (1 ∷ 15 ∷ 0 ∷ 0 ∷ 0 ∷ 1 ∷ 0 ∷ 0 ∷ 0 ∷ 1 ∷ 0 ∷ 0 ∷ 0 ∷ 0 ∷ 0 ∷ 0 ∷ 0 ∷ 5 ∷ [])
-          ∷ [];
+      lines = firstLayout ∷ jobOf 0 1 ∷ soloOf 0 0 ∷ jobOf 1 1 ∷ layoutUnder 0 ∷ endOf 2 3 ∷ [];
+      spells = pairOf 0 2 1 1 ∷ singleOf 1 ∷ totalsOf 1 1 0 5 ∷ [];
     }
-    ∷ record {
-      lines =
-          (0 ∷ 1 ∷ 15 ∷ 15 ∷ 15 ∷ 15 ∷ [])
-          ∷ (0 ∷ 1 ∷ 0 ∷ 0 ∷ 0 ∷ 0 ∷ [])
-          ∷ (0 ∷ 1 ∷ 0 ∷ 0 ∷ 0 ∷ 1 ∷ [])
-          ∷ (0 ∷ 2 ∷ 0 ∷ 0 ∷ 0 ∷ 0 ∷ 0 ∷ 0 ∷ 0 ∷ 2 ∷ [])
-          ∷ (0 ∷ 2 ∷ 0 ∷ 0 ∷ 0 ∷ 0 ∷ 0 ∷ 0 ∷ 0 ∷ 2 ∷ [])
-          ∷ (0 ∷ 3 ∷ 0 ∷ 0 ∷ 0 ∷ 3 ∷ 0 ∷ 0 ∷ 0 ∷ 2 ∷ [])
-          ∷ [];
-      spells =
-          (1 ∷ 1 ∷ 0 ∷ 0 ∷ 0 ∷ 0 ∷ 0 ∷ 0 ∷ 0 ∷ 1 ∷ 0 ∷ 0 ∷ 0 ∷ 1 ∷ 0 ∷ 0 ∷ 0 ∷ 2 ∷ [])
-          ∷ (1 ∷ 15 ∷ 0 ∷ 0 ∷ 0 ∷ 1 ∷ 0 ∷ 0 ∷ 0 ∷ 0 ∷ 0 ∷ 0 ∷ 0 ∷ 0 ∷ 0 ∷ 0 ∷ 0 ∷ 1 ∷ [])
-          ∷ [];
-    }
+    -- an end without a layout, whatever its counts; no end
+    ∷ record { lines = endOf 0 0 ∷ []; spells = refusalOf 2 1 ∷ [] }
+    ∷ record { lines = jobOf 0 0 ∷ endOf 0 2 ∷ []; spells = refusalOf 2 2 ∷ [] }
+    ∷ record { lines = jobOf 0 0 ∷ []; spells = refusalOf 7 2 ∷ [] }
+    ∷ record { lines = firstLayout ∷ jobOf 1 0 ∷ []; spells = refusalOf 7 3 ∷ [] }
+    -- wrong counts, or a fault further down, before a wrong job; the parent is one of the layouts so far, whatever the line; the first layout is layout 0
+    ∷ record { lines = firstLayout ∷ jobOf 1 0 ∷ endOf 1 2 ∷ []; spells = refusalOf 7 3 ∷ [] }
+    ∷ record { lines = firstLayout ∷ jobOf 1 0 ∷ [] ∷ endOf 1 1 ∷ []; spells = refusalOf 1 3 ∷ [] }
+    ∷ record { lines = firstLayout ∷ jobOf 1 0 ∷ layoutUnder 5 ∷ endOf 2 1 ∷ []; spells = refusalOf 4 3 ∷ [] }
+    ∷ record { lines = firstLayout ∷ jobOf 1 0 ∷ layoutUnder 1 ∷ endOf 2 1 ∷ []; spells = refusalOf 4 3 ∷ [] }
+    ∷ record { lines = jobOf 0 0 ∷ layoutUnder 0 ∷ []; spells = refusalOf 4 2 ∷ [] }
+    -- of two wrong jobs the first; its own line, behind a layout between jobs and in front of the last layout; 5 before 6 in one job
+    ∷ record { lines = firstLayout ∷ layoutUnder 0 ∷ jobOf 1 0 ∷ jobOf 5 0 ∷ endOf 2 2 ∷ []; spells = refusalOf 6 3 ∷ [] }
+    ∷ record { lines = firstLayout ∷ jobOf 0 0 ∷ layoutUnder 0 ∷ jobOf 1 0 ∷ endOf 2 2 ∷ []; spells = refusalOf 6 4 ∷ [] }
+    ∷ record { lines = firstLayout ∷ jobOf 1 0 ∷ layoutUnder 0 ∷ endOf 2 1 ∷ []; spells = refusalOf 6 2 ∷ [] }
+    ∷ record { lines = firstLayout ∷ jobOf 0 0 ∷ soloOf 1 0 ∷ endOf 1 2 ∷ []; spells = refusalOf 5 3 ∷ [] }
+    -- a wrong job before a line after the end; there 2 for a job or a layout, and 1 for an empty line
+    ∷ record { lines = firstLayout ∷ jobOf 0 1 ∷ endOf 1 1 ∷ endOf 1 1 ∷ []; spells = refusalOf 5 2 ∷ [] }
+    ∷ record { lines = firstLayout ∷ endOf 1 0 ∷ jobOf 0 1 ∷ []; spells = refusalOf 2 3 ∷ [] }
+    ∷ record { lines = firstLayout ∷ endOf 1 0 ∷ layoutUnder 0 ∷ endOf 2 0 ∷ []; spells = refusalOf 2 3 ∷ [] }
+    ∷ record { lines = firstLayout ∷ endOf 1 0 ∷ [] ∷ []; spells = refusalOf 1 3 ∷ [] }
     ∷ []
 
 -- ---- stretches
@@ -243,5 +258,5 @@ examples-hold :
     × (map stretched stretches ≡ stretches)
     × (runningOrder (tableIn bakehouse) ≡ 4 ∷ 0 ∷ 1 ∷ 2 ∷ 3 ∷ [])
     × (map (lookupVisits (tableIn bakehouse)) (4 ∷ 1 ∷ 2 ∷ []) ≡ 7 ∷ 7 ∷ 11 ∷ [])
-unfolding numbersFrom numbers elem indexOf lastD anyOf allOf select countWhere find total insertBy sortBy rightParent layoutsFrom treeVerdict ascend ancestors ancestorOrSelf depth children orSelf leavesWithin leaves firstLeaf lastLeaf solo upTo pathFrom path ownPath bare asks highest highestDepth shares sharedLayouts highestShared deepestShared bottomLeaf jobVerdict earlier runningOrder place leftward slotOrder slot without greedyStep greedySteps greedy compatible passes levelsFrom levels cellVisits visits asksFor askedSlots askedFrom askedTo lookupVisits passVisits cellCount lentVerdict jobsVerdict planVerdict partnerIn pairCount singleCount partners upper upperLayouts printed printedLayouts pairs singles passNumbers outcome _to_ _soloTo_ tableIn planned F bakehouse examples flatMap headD isDigit digitValue numberAfter lead lines frameOfKind frameOf isEnd outOfOrder contentVerdict frameVerdict extended unlessRefused readFrame readLines readTable digit hex pairLine singleLine totalsLine passLine planBytes refusalBytes readingBytes runBytes spelled printings agreement startsIn leading stretchOf dropped stretched stretches
+unfolding numbersFrom numbers elem indexOf lastD anyOf allOf select countWhere find total insertBy sortBy rightParent layoutsFrom treeVerdict ascend ancestors ancestorOrSelf depth children orSelf leavesWithin leaves firstLeaf lastLeaf solo upTo pathFrom path ownPath bare asks highest highestDepth shares sharedLayouts highestShared deepestShared bottomLeaf jobVerdict earlier runningOrder place leftward slotOrder slot without greedyStep greedySteps greedy compatible passes levelsFrom levels cellVisits visits asksFor askedSlots askedFrom askedTo lookupVisits passVisits cellCount lentVerdict jobsVerdict planVerdict partnerIn pairCount singleCount partners upper upperLayouts printed printedLayouts pairs singles passNumbers outcome _to_ _soloTo_ tableIn planned F bakehouse examples flatMap headD isDigit digitValue numberAfter lead lines frameOfKind frameOf isEnd endWithoutLayout onItsLine contentVerdict frameVerdict extended withOwnLine unlessRefused readFrame readLines readTable digit hex pairLine singleLine totalsLine passLine planBytes refusalBytes readingBytes runBytes spelled firstLayout layoutUnder jobOf soloOf endOf pairOf singleOf totalsOf refusalOf printings agreement startsIn leading stretchOf dropped stretched stretches
 examples-hold = (refl, refl, refl, refl, refl)

@@ -1,4 +1,4 @@
--- What document 01 says, as definitions: read these files beside docs/RULES.md, in this order. Its section 16 has every definition with its section.
+-- What document 01 says, as document 02 changed it, in definitions: read these files beside docs/RULES.md, in this order. Its section 16 has every definition with its section.
 pub mod Lists
 pub mod Verdict
 pub mod Tree

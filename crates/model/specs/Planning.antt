@@ -26,7 +26,7 @@ lentVerdict tb partners uppers printed work =
     || ltb work workCells)
     8 0
 
--- by job number 5 and 6, the smallest job first
+-- 5 and 6: the smallest job that is wrong, and of it 5 before 6
 unfoldable pub jobsVerdict : Table → Verdict
 jobsVerdict tb =
     foldr _then_ accepted

@@ -1,14 +1,16 @@
--- The table's meaning, line by line (docs/RULES.md, 10; docs/FORMAT.md; document 01, "The table", *Read a table* of "What each operation turns away").
+-- The table's meaning, line by line (docs/RULES.md, 10; docs/FORMAT.md; document 01, "The table", *Read a table* of "What each operation turns away", as 2026-04
+-- changed it).
 use Prim.Native.Nat.{ℕ, suc, _+_, _-_, _*_}
 use mathlib.Core.Bool.{Bool, true, false, cond, not, _||_, _&&_}
 use mathlib.Core.Option.{Option, none, some}
 use mathlib.Core.List.{List, [], _∷_, _++_}
-use lib.ListN.{length, take, drop}
+use lib.ListN.{length, getD, take, drop}
 use lib.Dec.{eqb, ltb, leb}
 use Rattle.model.specs.Lists.{allOf}
 use Rattle.model.specs.Verdict.{Verdict, accepted, refused, refuseIf, _then_, Answer, gives, refuses, lent, padded}
 use Rattle.model.specs.Tree.{layoutLimit, rightParent}
-use Rattle.model.specs.Jobs.{Table, jobs, jobLimit, jobVerdict}
+use Rattle.model.specs.Jobs.{Table, jobs, jobLimit}
+use Rattle.model.specs.Planning.{jobsVerdict}
 
 -- ---- digits and numbers
 
@@ -81,7 +83,7 @@ unfoldable pub frameOf : Line → Option Frame
 frameOf (unterminated l) = none
 frameOf (terminated l) = cond (allOf isDigit l) (frameOfKind l) none
 
--- ---- reading, line by line. tb is the table so far, `ended` that the end was read
+-- ---- reading, line by line. tb is the table so far, `own` the lines of its jobs by job number, `ended` whether the end was read
 
 unfoldable pub isEnd : Frame → Bool
 isEnd (layoutFrame p) = false
@@ -89,26 +91,28 @@ isEnd (jobFrame t b) = false
 isEnd (soloFrame t b) = false
 isEnd (endFrame n m) = true
 
--- a layout after a job, or a job or end before any layout
-unfoldable pub outOfOrder : Table → Frame → Bool
-outOfOrder tb (layoutFrame p) = ltb 0 (jobs tb)
-outOfOrder tb (jobFrame t b) = eqb (length (tb .parents)) 0
-outOfOrder tb (soloFrame t b) = eqb (length (tb .parents)) 0
-outOfOrder tb (endFrame n m) = eqb (length (tb .parents)) 0
+unfoldable pub endWithoutLayout : Table → Frame → Bool
+endWithoutLayout tb f = isEnd f && eqb (length (tb .parents)) 0
 
--- 3, a layout or job beyond the limit; 4, a wrong parent; 5 and 6, a wrong job; 7, an end with wrong counts
-unfoldable pub contentVerdict : ℕ → Table → Frame → Verdict
-contentVerdict line tb (layoutFrame p) =
+-- a job's refusal, with the job's own line as place instead of its number; each job that is judged was read, so the 0 is never used
+unfoldable pub onItsLine : List ℕ → Verdict → Verdict
+onItsLine own accepted = accepted
+onItsLine own (refused number job) = refused number (getD own job 0)
+
+-- 3, a layout or job beyond the limit; 4, a wrong parent; at the end 7, wrong counts, then 5 or 6 of the first wrong job, as *Plan* finds it, on its own line
+unfoldable pub contentVerdict : ℕ → Table → List ℕ → Frame → Verdict
+contentVerdict line tb own (layoutFrame p) =
     refuseIf (leb layoutLimit (length (tb .parents))) 3 line
     then refuseIf (not (rightParent (length (tb .parents)) p)) 4 line
-contentVerdict line tb (jobFrame t b) = refuseIf (leb jobLimit (jobs tb)) 3 line then jobVerdict (tb .parents) t b line
-contentVerdict line tb (soloFrame t b) = refuseIf (leb jobLimit (jobs tb)) 3 line then jobVerdict (tb .parents) t b line
-contentVerdict line tb (endFrame n m) =
+contentVerdict line tb own (jobFrame t b) = refuseIf (leb jobLimit (jobs tb)) 3 line
+contentVerdict line tb own (soloFrame t b) = refuseIf (leb jobLimit (jobs tb)) 3 line
+contentVerdict line tb own (endFrame n m) =
     refuseIf (not (eqb n (length (tb .parents)) && eqb m (jobs tb))) 7 line
+    then onItsLine own (jobsVerdict tb)
 
--- 2, a line after the end or out of order; then what it holds
-unfoldable pub frameVerdict : ℕ → Table → Bool → Frame → Verdict
-frameVerdict line tb ended f = refuseIf (ended || outOfOrder tb f) 2 line then contentVerdict line tb f
+-- 2, a line after the end, or an end without a layout; then the grounds of its kind
+unfoldable pub frameVerdict : ℕ → Table → List ℕ → Bool → Frame → Verdict
+frameVerdict line tb own ended f = refuseIf (ended || endWithoutLayout tb f) 2 line then contentVerdict line tb own f
 
 -- the table with one job more
 abbrev pub withJob : Table → ℕ → ℕ → ℕ → Table
@@ -128,6 +132,13 @@ extended tb (jobFrame t b) = withJob tb t b 0
 extended tb (soloFrame t b) = withJob tb t b 1
 extended tb (endFrame n m) = tb
 
+-- `own` with this line, if it holds a job
+unfoldable pub withOwnLine : List ℕ → ℕ → Frame → List ℕ
+withOwnLine own line (layoutFrame p) = own
+withOwnLine own line (jobFrame t b) = own ++ line ∷ []
+withOwnLine own line (soloFrame t b) = own ++ line ∷ []
+withOwnLine own line (endFrame n m) = own
+
 -- a table read to its end, or a refusal's number and place
 pub data Reading : Type 0 where
   read : Table → Reading
@@ -138,15 +149,16 @@ unfoldable pub unlessRefused : Verdict → Reading → Reading
 unlessRefused accepted r = r
 unlessRefused (refused number place) r = stopped number place
 
--- a line that is no frame is refusal 1; `later` reads the lines after it, of which there is none without a refusal once the end is read
-unfoldable pub readFrame : (Table → Bool → Reading) → ℕ → Table → Bool → Option Frame → Reading
-readFrame later line tb ended none = stopped 1 line
-readFrame later line tb ended (some f) = unlessRefused (frameVerdict line tb ended f) (later (extended tb f) (isEnd f))
+-- a line that is no frame is refusal 1; `later` reads the lines after it. Every frame after the end is refused, so `isEnd` of the frame just accepted tells whether the end was read
+unfoldable pub readFrame : (Table → List ℕ → Bool → Reading) → ℕ → Table → List ℕ → Bool → Option Frame → Reading
+readFrame later line tb own ended none = stopped 1 line
+readFrame later line tb own ended (some f) =
+    unlessRefused (frameVerdict line tb own ended f) (later (extended tb f) (withOwnLine own line f) (isEnd f))
 
 -- the lines from number `line` on. Bytes that stop with no end line: 7, at the line after the last
-unfoldable pub readLines : List Line → ℕ → Table → Bool → Reading
-readLines [] line tb ended = cond ended (read tb) (stopped 7 line)
-readLines (l ∷ ls) line tb ended = readFrame (readLines ls (suc line)) line tb ended (frameOf l)
+unfoldable pub readLines : List Line → ℕ → Table → List ℕ → Bool → Reading
+readLines [] line tb own ended = cond ended (read tb) (stopped 7 line)
+readLines (l ∷ ls) line tb own ended = readFrame (readLines ls (suc line)) line tb own ended (frameOf l)
 
 -- no layouts and no jobs
 abbrev pub emptyTable : Table
@@ -154,7 +166,7 @@ emptyTable = record { parents = []; tops = []; bottoms = []; marks = [] }
 
 -- the table that the bytes spell; the place is the line counted from 1
 unfoldable pub readTable : List ℕ → Reading
-readTable bytes = readLines (lines bytes) 1 emptyTable false
+readTable bytes = readLines (lines bytes) 1 emptyTable [] false
 
 -- ---- what *Read a table* does with the buffers
 
@@ -178,6 +190,6 @@ unfoldable pub readAnswer : Verdict → Reading → Answer
 readAnswer accepted r = readingAnswer r
 readAnswer (refused number place) r = refuses number place
 
--- a buffer of numbers is untouched after refusal 8; else its unused cells hold FFFF, and unused marks are 0
+-- untouched after refusal 8; else unused cells hold `unused`: FFFF, or 0 for marks
 abbrev pub readCells : Verdict → ℕ → List ℕ → List ℕ → List ℕ
 readCells sizes unused old used = lent sizes old (padded (length old) unused used)

@@ -1,23 +1,26 @@
 -- The layouts and jobs held in the cells: none, one more, and all.
 use Prim.Native.Nat.{ℕ, zero, suc, _+_, _-_, _≤_, _<_}
 use mathlib.Core.Path.{_≡_, refl, sym, _∙_}
-use mathlib.Core.Bool.{false, cond}
-use mathlib.Core.List.{List, [], _∷_, _++_}
+use mathlib.Core.Logic.{_≢_}
+use mathlib.Core.Bool.{false, true, true≢false}
+use mathlib.Core.List.{List, [], _∷_, _++_, append-nil, append-assoc}
 use native.Mathlib.Nat.{zero-add}
+use native.Mathlib.Decide.{decLt}
 use native.Mathlib.Numerals.{add-one}
 use native.Mathlib.Omega.{arith}
-use lib.ListN.{length, take, drop, set, replicate, length-set}
-use lib.Seq.{drop-set-lt, take-suc-set, drop-drop, length-take-le}
-use Rattle.model.specs.Verdict.{accepted, refused}
+use lib.ListN.{length, take, drop, set, replicate, length-set, length-append, List·getD-append}
+use lib.Seq.{drop-set-lt, take-suc-set, drop-drop, length-take-le, getD-at}
 use Rattle.model.specs.Tree.{FFFF, layoutLimit, layoutsFrom}
-use Rattle.model.specs.Table.{extended}
+use Rattle.model.specs.Table.{lines, extended, read, stopped, readTable}
 use Rattle.model.specs.declared.Refusal.{Refusal}
 use Rattle.tree_laws.specs.WellFormed.{layouts-more}
-use Rattle.reading.specs.Unchecked.{halted}
-use Rattle.reading.specs.Steps.{uncheckedFrom, endedAt, LayoutLine, JobLine, EndLine, Unused, Room, Roomy, BuffersReady, held, SoFar, stopVerdict, LinesRead}
+use Rattle.own_line.specs.OwnLine.{jobLines, ownLinesFrom}
+use Rattle.reading.specs.Steps.{readFrom, endedAt, LayoutLine, JobLine, EndLine, Unused, Room, Roomy, BuffersReady, held, Standing, SoFar, readAfter, EndRead, LinesRead, Stopped}
 use Rattle.reading.specs.Lines.{no-bytes}
-use Rattle.reading.specs.declared.Stop.{Stop}
-use Rattle.reading.specs.declared.Stop.the-variants as stop
+use Rattle.reading.specs.declared.After.{After}
+use Rattle.reading.specs.declared.After.the-variants as after
+use Rattle.reading.specs.declared.Lines.{Lines}
+use Rattle.reading.specs.declared.Lines.the-variants as lines-read
 
 -- ---- cells
 
@@ -34,17 +37,26 @@ unused-more v n a cells h u =
 used-more : (n a : ℕ) (cells : List ℕ) → n < length cells → take (n + 1) (set cells n a) ≡ take n cells ++ (a ∷ [])
 used-more n a cells h = rw add-one (take-suc-set cells n a h)
 
+-- ---- the own lines
+
+-- one job more has its line
+standing-more : (own : List ℕ) (m k : ℕ) → length own ≡ m → Standing own m k → Standing (own ++ (k + 1) ∷ []) (m + 1) (k + 1)
+standing-more own m k e s j h = elim (decLt j m) [
+  | yes old ↦ rw (List·getD-append own ((k + 1) ∷ []) 0 j (omega arith)) (s j old .0, omega (arith, s j old .1))
+  | no new ↦ rw (getD-at own (k + 1) [] 0 j (omega arith)) (omega arith, omega arith)
+]
+
 -- ---- so far
 
 -- a count whose end was not read is 0
 no-ends : (ends : ℕ) → endedAt ends ≡ false → ends ≡ 0
 no-ends zero e = refl
-no-ends (suc ends) e = cc
+no-ends (suc ends) e = absurd (true≢false e)
 
 module _ (bytes parents tops bottoms marks : List ℕ) where
   -- nothing is read
   pub so-far-none : BuffersReady bytes parents tops bottoms marks → SoFar bytes parents tops bottoms marks 0 0 0 0
-  unfolding layoutsFrom
+  unfolding layoutsFrom readTable
   so-far-none b =
       record {
         holds =
@@ -56,13 +68,16 @@ module _ (bytes parents tops bottoms marks : List ℕ) where
               bottoms-hold = omega arith;
               marks-hold = omega arith;
               right = refl;
-              some-layout = λ h. h;
               spare = b .clear;
             };
         one-end = omega arith;
         end-last = λ h. h;
         within = omega arith;
         passed = omega arith;
+        own = [];
+        counted = refl;
+        standing = λ j h. absurd (omega arith);
+        ahead = refl;
         next = refl;
       }
 
@@ -70,10 +85,10 @@ module _ (bytes parents tops bottoms marks : List ℕ) where
     counted-layouts : length (take n parents) ≡ n
     counted-layouts = length-take-le n parents (s .holds .parents-hold)
 
-    pub counted-jobs : length (take m tops) ≡ m
+    counted-jobs : length (take m tops) ≡ m
     counted-jobs = length-take-le m tops (s .holds .tops-hold)
 
-    module _ (p : ℕ) (l : LayoutLine bytes at (n + m + ends + 1) (held parents tops bottoms marks n m) (endedAt ends) p) where
+    module _ (p : ℕ) (l : LayoutLine bytes at (n + m + ends + 1) (held parents tops bottoms marks n m) (s .own) (endedAt ends) p) where
       -- there is a cell for it
       pub layout-room : layoutLimit ≤ length parents → n < length parents
       layout-room h = omega (arith, l .room, counted-layouts)
@@ -84,8 +99,6 @@ module _ (bytes parents tops bottoms marks : List ℕ) where
       so-far-layout long =
           let h = s .holds in
           let room : n < length parents = layout-room long in
-          let free : m ≡ 0 = sym counted-jobs ∙ l .no-job in
-          let still : ends ≡ 0 = no-ends ends (l .not-ended) in
           let next-line : suc (n + m + ends + 1) ≡ n + 1 + m + ends + 1 = omega arith in
           record {
             holds =
@@ -97,7 +110,6 @@ module _ (bytes parents tops bottoms marks : List ℕ) where
                   bottoms-hold = h .bottoms-hold;
                   marks-hold = h .marks-hold;
                   right = rw (used-more n p parents room) (layouts-more 0 (take n parents) p (h .right) (rw zero-add (l .right)));
-                  some-layout = λ k. omega arith;
                   spare =
                       record {
                         parents-spare = unused-more FFFF n p parents room (h .spare .parents-spare);
@@ -110,10 +122,14 @@ module _ (bytes parents tops bottoms marks : List ℕ) where
             end-last = λ k. omega arith;
             within = l .within;
             passed = omega (arith, s .passed);
-            next = s .next ∙ l .next ∙ rw (used-more n p parents room, next-line, l .not-ended) refl;
+            own = s .own;
+            counted = s .counted;
+            standing = λ j k. (s .standing j k .0, omega (arith, s .standing j k .1));
+            ahead = rw (l .not-ended, ← next-line, ← l .ahead) (rw (l .not-ended) at (s .ahead));
+            next = rw (l .not-ended) (rw (l .not-ended) at (s .next) ∙ (rw (l .not-ended) at (l .next)) ∙ rw (used-more n p parents room, next-line) refl);
           }
 
-    module _ (t b mark : ℕ) (l : JobLine bytes at (n + m + ends + 1) (held parents tops bottoms marks n m) (endedAt ends) t b mark) (room : Roomy bytes parents tops bottoms marks) where
+    module _ (t b mark : ℕ) (l : JobLine bytes at (n + m + ends + 1) (held parents tops bottoms marks n m) (s .own) (endedAt ends) t b mark) (room : Roomy bytes parents tops bottoms marks) where
       job-room : (cells : List ℕ) → Room bytes cells → m < length cells
       job-room cells h = h m (omega (arith, l .room, counted-jobs)) (omega (arith, l .within, s .passed))
 
@@ -132,6 +148,7 @@ module _ (bytes parents tops bottoms marks : List ℕ) where
       so-far-job =
           let h = s .holds in
           let still : ends ≡ 0 = no-ends ends (l .not-ended) in
+          let here : n + m + ends + 1 ≡ n + m + 1 = omega arith in
           let next-line : suc (n + m + ends + 1) ≡ n + (m + 1) + ends + 1 = omega arith in
           record {
             holds =
@@ -143,7 +160,6 @@ module _ (bytes parents tops bottoms marks : List ℕ) where
                   bottoms-hold = rw (length-set bottoms m b) (omega (arith, bottom-room));
                   marks-hold = rw (length-set marks m mark) (omega (arith, mark-room));
                   right = h .right;
-                  some-layout = λ k. omega (arith, l .some-layout, counted-layouts);
                   spare =
                       record {
                         parents-spare = h .spare .parents-spare;
@@ -156,11 +172,23 @@ module _ (bytes parents tops bottoms marks : List ℕ) where
             end-last = s .end-last;
             within = l .within;
             passed = omega (arith, s .passed);
-            next = s .next ∙ l .next ∙ rw (used-more m t tops top-room, used-more m b bottoms bottom-room, used-more m mark marks mark-room, next-line, l .not-ended) refl;
+            own = s .own ++ (n + m + ends + 1) ∷ [];
+            counted = rw (length-append (s .own) ((n + m + ends + 1) ∷ []), s .counted) (omega arith);
+            standing = λ j k.
+                let more = standing-more (s .own) m (n + m) (s .counted) (s .standing) j k in
+                rw here (more .0, omega (arith, more .1));
+            ahead =
+                rw (l .not-ended, append-assoc (s .own) ((n + m + ends + 1) ∷ []) (ownLinesFrom bytes (at + 11) (n + (m + 1) + ends + 1)), ← next-line, ← l .ahead)
+                (rw (l .not-ended) at (s .ahead));
+            next =
+                rw (l .not-ended)
+                (rw (l .not-ended) at (s .next)
+                ∙ (rw (l .not-ended) at (l .next))
+                ∙ rw (used-more m t tops top-room, used-more m b bottoms bottom-room, used-more m mark marks mark-room, next-line) refl);
           }
 
     -- the end
-    pub so-far-end : EndLine bytes at (n + m + ends + 1) (held parents tops bottoms marks n m) (endedAt ends) → SoFar bytes parents tops bottoms marks (at + 11) n m 1
+    pub so-far-end : EndLine bytes at (n + m + ends + 1) (held parents tops bottoms marks n m) (s .own) (endedAt ends) → SoFar bytes parents tops bottoms marks (at + 11) n m 1
     so-far-end l =
         let still : ends ≡ 0 = no-ends ends (l .not-ended) in
         let next-line : suc (n + m + ends + 1) ≡ n + m + 1 + 1 = omega arith in
@@ -170,23 +198,48 @@ module _ (bytes parents tops bottoms marks : List ℕ) where
           end-last = λ k. omega (arith, l .some-layout, counted-layouts);
           within = l .within;
           passed = omega (arith, s .passed);
-          next = s .next ∙ l .next ∙ rw next-line refl;
+          own = s .own;
+          counted = s .counted;
+          standing = s .standing;
+          ahead = rw (← l .ahead) (rw (l .not-ended) at (s .ahead));
+          next = rw (l .not-ended) at (s .next) ∙ (rw (l .not-ended) at (l .next)) ∙ rw next-line refl;
         }
 
-    -- a line is refused
-    pub read-stopped : (r : Refusal) → uncheckedFrom bytes at (n + m + ends + 1) (held parents tops bottoms marks n m) (endedAt ends) ≡ halted (held parents tops bottoms marks n m) (endedAt ends) (refused (r .number) (r .place)) → LinesRead bytes parents tops bottoms marks n m (stop.Refused r)
-    read-stopped r e = record { holds = s .holds; ended = endedAt ends; read = s .next ∙ e; done = λ k. let apart : _≡_ {A = ℕ} 0 1 = cc in absurd (omega arith) }
+-- ---- where the reading stops
 
-    -- no bytes are left
-    pub read-last : length bytes ≤ at → (r : Stop) → stopVerdict r ≡ cond (endedAt ends) accepted (refused 7 (n + m + ends + 1)) → LinesRead bytes parents tops bottoms marks n m r
-    read-last h r e =
-        record {
-          holds = s .holds;
-          ended = endedAt ends;
-          read = s .next ∙ no-bytes bytes at (n + m + ends + 1) (held parents tops bottoms marks n m) (endedAt ends) h ∙ rw e refl;
-          done = λ k. some ends (s .end-last) (sym e ∙ k);
-        }
-      where
-        some : (x : ℕ) → (0 < x → 0 < n) → cond (endedAt x) accepted (refused 7 (n + m + ends + 1)) ≡ accepted → 0 < n
-        some zero f q = let apart : _≡_ {A = ℕ} 0 1 = cc in absurd (omega arith)
-        some (suc x) f q = f (omega arith)
+-- before the end it is refused
+pub stopped-open : (n m ends : ℕ) (a : After) (x : Refusal) (r : Lines) → ends ≡ 0 → r ≡ lines-read.Refused x → Stopped n m ends a x r
+stopped-open n m zero a x r e is = is
+stopped-open n m (suc ends) a x r e is = absurd (omega arith)
+
+-- behind it the table is there
+pub stopped-ended : (n m ends : ℕ) (a : After) (x : Refusal) (r : Lines) → ends ≢ 0 → r ≡ lines-read.Ended (record { layouts = n; jobs = m }) a → Stopped n m ends a x r
+stopped-ended n m zero a x r e is = absurd (e refl)
+stopped-ended n m (suc ends) a x r e is = is
+
+module _ (bytes parents tops bottoms marks : List ℕ) (at n m : ℕ) where
+  -- behind the end, with what stands there
+  read-behind : (ends : ℕ) (s : SoFar bytes parents tops bottoms marks at n m (suc ends)) (a : After)
+      → readFrom bytes at (n + m + suc ends + 1) (held parents tops bottoms marks n m) (s .own) true ≡ readAfter a (held parents tops bottoms marks n m)
+      → EndRead bytes parents tops bottoms marks n m a
+  read-behind ends s a e =
+      let whole : s .own ≡ jobLines 1 (lines bytes) = sym (append-nil (s .own)) ∙ s .ahead in
+      record {
+        holds = s .holds;
+        some-layout = s .end-last (omega arith);
+        standing = rw (← whole) (s .standing);
+        next = s .next ∙ rw (e, whole) refl;
+      }
+
+  -- a line is refused
+  pub read-stopped : (ends : ℕ) (s : SoFar bytes parents tops bottoms marks at n m ends) (x : Refusal) (r : Lines)
+      → readFrom bytes at (n + m + ends + 1) (held parents tops bottoms marks n m) (s .own) (endedAt ends) ≡ stopped (x .number) (x .place)
+      → Stopped n m ends (after.Line x) x r → LinesRead bytes parents tops bottoms marks r
+  read-stopped zero s x r e is = rw is (s .next ∙ e)
+  read-stopped (suc ends) s x r e is = rw is (read-behind ends s (after.Line x) e)
+
+  -- no bytes are left
+  pub read-last : (ends : ℕ) (s : SoFar bytes parents tops bottoms marks at n m ends) (r : Lines) → length bytes ≤ at
+      → Stopped n m ends after.Nothing (record { number = 7; place = n + m + ends + 1 }) r → LinesRead bytes parents tops bottoms marks r
+  read-last zero s r h is = rw is (s .next ∙ no-bytes bytes at (n + m + 0 + 1) (held parents tops bottoms marks n m) (s .own) false h)
+  read-last (suc ends) s r h is = rw is (read-behind ends s after.Nothing (no-bytes bytes at (n + m + suc ends + 1) (held parents tops bottoms marks n m) (s .own) true h))

@@ -1,5 +1,4 @@
 -- What each step of the reader promises, and the laws of reading line by line.
-pub mod Unchecked
 pub mod Steps
 pub mod Lines
 pub mod Held

@@ -4,48 +4,40 @@ use mathlib.Core.Path.{_≡_, refl, _∙_}
 use mathlib.Core.Logic.{_≢_}
 use mathlib.Core.Bool.{Bool, true, false, cond}
 use mathlib.Core.Option.{none, some}
-use mathlib.Core.List.{List}
+use mathlib.Core.List.{List, [], _∷_, _++_}
 use native.Mathlib.Omega.{arith}
 use lib.ListN.{length, drop, length-drop, drop-of-length-le}
 use lib.Seq.{drop-drop}
-use borrow.Author.Tests.{le-leb, lt-leb, lt-ltb, eq-eqb, ne-eqb}
+use borrow.Author.Tests.{le-leb, lt-leb, eq-eqb, ne-eqb}
 use Rattle.model.specs.Verdict.{accepted, refused}
 use Rattle.model.specs.Tree.{layoutLimit, rightParent}
 use Rattle.model.specs.Jobs.{Table, jobs, jobLimit}
-use Rattle.model.specs.Table.{lines, layoutFrame, jobFrame, soloFrame, endFrame, contentVerdict, outOfOrder, withJob, extended, isEnd}
+use Rattle.model.specs.Table.{lines, layoutFrame, endFrame, isEnd, endWithoutLayout, contentVerdict, frameVerdict, withJob, extended, withOwnLine, Reading, read, stopped, unlessRefused, readFrame, readLines}
 use Rattle.model.specs.Table as Format
 use Rattle.frame.specs.Lines.{width, next-line, some-line}
-use Rattle.reading.specs.Unchecked.{halted, uncheckedContent, uncheckedVerdict, unlessStopped, uncheckedFrame, unchecked}
-use Rattle.reading.specs.Steps.{uncheckedFrom, frameAt, endedAt, jobOf, LayoutFrame, JobFrame, EndFrame, FrameOutcome, StepOutcome}
+use Rattle.own_line.specs.OwnLine.{jobLine, frameAt, ownLinesFrom, frame-lines, frame-within}
+use Rattle.reading.specs.Steps.{readFrom, endedAt, jobOf, LayoutFrame, JobFrame, EndFrame, FrameOutcome, StepOutcome}
 use Rattle.reading.specs.declared.Step.{Step}
 use Rattle.reading.specs.declared.Step.the-variants as step
 
--- no bytes are left
-pub no-bytes : (s : List ℕ) (at line : ℕ) (tb : Table) (ended : Bool) → length s ≤ at → uncheckedFrom s at line tb ended ≡ halted tb ended (cond ended accepted (refused 7 line))
-unfolding lines unchecked
-no-bytes s at line tb ended h = rw (drop-of-length-le s h)
+module _ (bytes : List ℕ) (at line : ℕ) (tb : Table) (own : List ℕ) (ended : Bool) where
+  -- no bytes are left
+  pub no-bytes : length bytes ≤ at → readFrom bytes at line tb own ended ≡ cond ended (read tb) (stopped 7 line)
+  unfolding lines readLines
+  no-bytes h = rw (drop-of-length-le bytes h)
 
--- a line that is no frame
-pub no-frame-read : (s : List ℕ) (at line : ℕ) (tb : Table) (ended : Bool) → at < length s → frameAt s at ≡ none → uncheckedFrom s at line tb ended ≡ halted tb ended (refused 1 line)
-unfolding unchecked uncheckedFrame
-no-frame-read s at line tb ended h e =
-    let left : 0 < length (drop at s) = rw length-drop (omega arith) in
-    rw (some-line (drop at s) left .1, e)
+  -- a line that is no frame
+  pub no-frame-read : at < length bytes → frameAt bytes at ≡ none → readFrom bytes at line tb own ended ≡ stopped 1 line
+  unfolding readLines readFrame
+  no-frame-read h e =
+      let left : 0 < length (drop at bytes) = rw length-drop (omega arith) in
+      rw (some-line (drop at bytes) left .1, e)
 
--- a frame
-frame-read : (s : List ℕ) (at line : ℕ) (tb : Table) (ended : Bool) (f : Format.Frame) → frameAt s at ≡ some f
-    → uncheckedFrom s at line tb ended ≡ unlessStopped tb ended (uncheckedVerdict line tb ended f) (uncheckedFrom s (at + width f) (suc line) (extended tb f) (isEnd f))
-unfolding unchecked uncheckedFrame
-frame-read s at line tb ended f e = rw (next-line (drop at s) f e .after, e, drop-drop (width f) at s)
-
-width-some : (f : Format.Frame) → 0 < width f
-width-some (layoutFrame p) = omega arith
-width-some (jobFrame t b) = omega arith
-width-some (soloFrame t b) = omega arith
-width-some (endFrame n m) = omega arith
-
-frame-within : (s : List ℕ) (at : ℕ) (f : Format.Frame) → frameAt s at ≡ some f → at + width f ≤ length s
-frame-within s at f e = omega (arith, simp length-drop at (next-line (drop at s) f e .within), width-some f)
+  -- a frame
+  frame-read : (f : Format.Frame) → frameAt bytes at ≡ some f
+      → readFrom bytes at line tb own ended ≡ unlessRefused (frameVerdict line tb own ended f) (readFrom bytes (at + width f) (suc line) (extended tb f) (withOwnLine own line f) (isEnd f))
+  unfolding readLines readFrame
+  frame-read f e = rw (next-line (drop at bytes) f e .after, e, drop-drop (width f) at bytes)
 
 -- ---- a job, with a mark or without
 
@@ -54,6 +46,11 @@ unfolding extended
 extended-job tb t b zero h = refl
 extended-job tb t b (suc zero) h = refl
 extended-job tb t b (suc (suc mark)) h = absurd (omega arith)
+
+own-line-job : (own : List ℕ) (line t b mark : ℕ) → withOwnLine own line (jobOf t b mark) ≡ own ++ line ∷ []
+unfolding withOwnLine
+own-line-job own line t b zero = refl
+own-line-job own line t b (suc mark) = refl
 
 no-end : (t b mark : ℕ) → isEnd (jobOf t b mark) ≡ false
 unfolding isEnd
@@ -64,116 +61,109 @@ job-width : (t b mark : ℕ) → width (jobOf t b mark) ≡ 11
 job-width t b zero = refl
 job-width t b (suc mark) = refl
 
--- after the end nothing is accepted
-after-end : (line : ℕ) (tb : Table) (f : Format.Frame) → uncheckedVerdict line tb true f ≡ refused 2 line
-unfolding uncheckedVerdict
-after-end line tb f = refl
-
-pub ended-late : (line : ℕ) (tb : Table) (f : Format.Frame) (ends : ℕ) → ends ≢ 0 → uncheckedVerdict line tb (endedAt ends) f ≡ refused 2 line
-ended-late line tb f zero h = absurd (h refl)
-ended-late line tb f (suc ends) h = after-end line tb f
-
-accepts-open : (line : ℕ) (tb : Table) (ended : Bool) (f : Format.Frame) → uncheckedVerdict line tb ended f ≡ accepted → ended ≡ false
-accepts-open line tb true f e = let late = after-end line tb f in let apart : _≡_ {A = ℕ} 0 1 = cc in absurd (omega arith)
-accepts-open line tb false f e = refl
+job-counts : (t b mark line : ℕ) (later : List ℕ) → jobLine line later (some (jobOf t b mark)) ≡ line ∷ later
+unfolding jobLine
+job-counts t b zero line later = refl
+job-counts t b (suc mark) line later = refl
 
 -- ---- a frame's verdict makes the step
 
-pub step-by-frame : (s : List ℕ) (at line : ℕ) (tb : Table) (ended : Bool) (f : Format.Frame) (r : Step) → frameAt s at ≡ some f → FrameOutcome line tb ended f r → StepOutcome s at line tb ended r
-unfolding unlessStopped extended isEnd
-step-by-frame s at line tb ended f (step.Layout p) e o =
-    record {
-      not-ended = accepts-open line tb ended f (o .accepts);
-      within = rw (o .is) at (frame-within s at f e);
-      no-job = o .no-job;
-      room = o .room;
-      right = o .right;
-      next = frame-read s at line tb ended f e ∙ rw (o .accepts, o .is);
-    }
-step-by-frame s at line tb ended f (step.Job t b mark) e o =
-    record {
-      not-ended = accepts-open line tb ended f (o .accepts);
-      within = rw (o .is, job-width (t .0) (b .0) mark) at (frame-within s at f e);
-      one = o .one;
-      some-layout = o .some-layout;
-      room = o .room;
-      next = frame-read s at line tb ended f e ∙ rw (o .accepts, o .is, extended-job tb (t .0) (b .0) mark (o .one), no-end (t .0) (b .0) mark, job-width (t .0) (b .0) mark);
-    }
-step-by-frame s at line tb ended f step.End e o =
-    record {
-      not-ended = accepts-open line tb ended f (o .accepts);
-      within = rw (o .is) at (frame-within s at f e);
-      some-layout = o .some-layout;
-      next = frame-read s at line tb ended f e ∙ rw (o .accepts, o .is);
-    }
-step-by-frame s at line tb ended f (step.Refused r) e o = frame-read s at line tb ended f e ∙ rw o
+module _ (bytes : List ℕ) (at line : ℕ) (tb : Table) (own : List ℕ) (ended : Bool) (f : Format.Frame) (e : frameAt bytes at ≡ some f) where
+  pub step-by-frame : (r : Step) → FrameOutcome line tb own ended f r → StepOutcome bytes at line tb own ended r
+  unfolding unlessRefused extended withOwnLine isEnd jobLine
+  step-by-frame (step.Layout p) o =
+      record {
+        not-ended = o .not-ended;
+        within = rw (o .is) at (frame-within bytes at line f e);
+        room = o .room;
+        right = o .right;
+        next = frame-read bytes at line tb own ended f e ∙ rw (o .accepts, o .is);
+        ahead = frame-lines bytes at line f e ∙ rw (o .is);
+      }
+  step-by-frame (step.Job t b mark) o =
+      record {
+        not-ended = o .not-ended;
+        within = rw (o .is, job-width (t .0) (b .0) mark) at (frame-within bytes at line f e);
+        one = o .one;
+        room = o .room;
+        next = frame-read bytes at line tb own ended f e ∙ rw (o .accepts, o .is, extended-job tb (t .0) (b .0) mark (o .one), own-line-job own line (t .0) (b .0) mark, no-end (t .0) (b .0) mark, job-width (t .0) (b .0) mark);
+        ahead = frame-lines bytes at line f e ∙ rw (o .is, job-width (t .0) (b .0) mark) (job-counts (t .0) (b .0) mark line (ownLinesFrom bytes (at + 11) (suc line)));
+      }
+  step-by-frame step.End o =
+      record {
+        not-ended = o .not-ended;
+        within = rw (o .is) at (frame-within bytes at line f e);
+        some-layout = o .some-layout;
+        next = frame-read bytes at line tb own ended f e ∙ rw (o .judged, o .is);
+        ahead = frame-lines bytes at line f e ∙ rw (o .is);
+      }
+  step-by-frame (step.Refused r) o = frame-read bytes at line tb own ended f e ∙ rw o
 
 -- ---- which tests make which verdict
 
-module _ (line : ℕ) (tb : Table) (p : ℕ) where
-  pub layout-late : 0 < jobs tb → uncheckedVerdict line tb false (layoutFrame p) ≡ refused 2 line
-  unfolding uncheckedVerdict outOfOrder
-  layout-late h = rw (lt-ltb 0 (jobs tb) h)
+module _ (line : ℕ) (tb : Table) (own : List ℕ) where
+  -- after the end nothing is accepted
+  pub ended-late : (f : Format.Frame) (ends : ℕ) → ends ≢ 0 → frameVerdict line tb own (endedAt ends) f ≡ refused 2 line
+  unfolding frameVerdict
+  ended-late f zero h = absurd (h refl)
+  ended-late f (suc ends) h = refl
 
-  pub layout-beyond : jobs tb ≡ 0 → layoutLimit ≤ length (tb .parents) → uncheckedVerdict line tb false (layoutFrame p) ≡ refused 3 line
-  unfolding uncheckedVerdict uncheckedContent outOfOrder contentVerdict
-  layout-beyond free h = rw (free, le-leb layoutLimit (length (tb .parents)) h)
+  module _ (p : ℕ) where
+    pub layout-beyond : layoutLimit ≤ length (tb .parents) → frameVerdict line tb own false (layoutFrame p) ≡ refused 3 line
+    unfolding frameVerdict contentVerdict endWithoutLayout isEnd
+    layout-beyond h = rw (le-leb layoutLimit (length (tb .parents)) h)
 
-  pub layout-wrong : jobs tb ≡ 0 → length (tb .parents) < layoutLimit → rightParent (length (tb .parents)) p ≡ false → uncheckedVerdict line tb false (layoutFrame p) ≡ refused 4 line
-  unfolding uncheckedVerdict uncheckedContent outOfOrder contentVerdict
-  layout-wrong free h wrong = rw (free, lt-leb layoutLimit (length (tb .parents)) h, wrong)
+    pub layout-wrong : length (tb .parents) < layoutLimit → rightParent (length (tb .parents)) p ≡ false → frameVerdict line tb own false (layoutFrame p) ≡ refused 4 line
+    unfolding frameVerdict contentVerdict endWithoutLayout isEnd
+    layout-wrong h wrong = rw (lt-leb layoutLimit (length (tb .parents)) h, wrong)
 
-  pub layout-right : jobs tb ≡ 0 → length (tb .parents) < layoutLimit → rightParent (length (tb .parents)) p ≡ true → LayoutFrame line tb false (layoutFrame p) p
-  unfolding uncheckedVerdict uncheckedContent outOfOrder contentVerdict
-  layout-right free h right =
-      record {
-        accepts = rw (free, lt-leb layoutLimit (length (tb .parents)) h, right);
-        is = refl;
-        no-job = free;
-        room = h;
-        right = right;
-      }
-
-module _ (line : ℕ) (tb : Table) (t b : ℕ) where
-  pub job-early : (mark : ℕ) → length (tb .parents) ≡ 0 → uncheckedVerdict line tb false (jobOf t b mark) ≡ refused 2 line
-  unfolding uncheckedVerdict outOfOrder
-  job-early zero e = rw (eq-eqb (length (tb .parents)) 0 e)
-  job-early (suc mark) e = rw (eq-eqb (length (tb .parents)) 0 e)
-
-  pub job-beyond : (mark : ℕ) → length (tb .parents) ≢ 0 → jobLimit ≤ jobs tb → uncheckedVerdict line tb false (jobOf t b mark) ≡ refused 3 line
-  unfolding uncheckedVerdict uncheckedContent outOfOrder
-  job-beyond zero e h = rw (ne-eqb (length (tb .parents)) 0 e, le-leb jobLimit (jobs tb) h)
-  job-beyond (suc mark) e h = rw (ne-eqb (length (tb .parents)) 0 e, le-leb jobLimit (jobs tb) h)
-
-  accepts-job : (mark : ℕ) → length (tb .parents) ≢ 0 → jobs tb < jobLimit → uncheckedVerdict line tb false (jobOf t b mark) ≡ accepted
-  unfolding uncheckedVerdict uncheckedContent outOfOrder
-  accepts-job zero e h = rw (ne-eqb (length (tb .parents)) 0 e, lt-leb jobLimit (jobs tb) h)
-  accepts-job (suc mark) e h = rw (ne-eqb (length (tb .parents)) 0 e, lt-leb jobLimit (jobs tb) h)
-
-  pub job-right : (mark : ℕ) → mark ≤ 1 → length (tb .parents) ≢ 0 → jobs tb < jobLimit → JobFrame line tb false (jobOf t b mark) t b mark
-  job-right mark one e h = record { accepts = accepts-job mark e h; is = refl; one = one; some-layout = omega arith; room = h }
-
-module _ (line : ℕ) (tb : Table) (n m : ℕ) where
-  pub end-early : length (tb .parents) ≡ 0 → uncheckedVerdict line tb false (endFrame n m) ≡ refused 2 line
-  unfolding uncheckedVerdict outOfOrder
-  end-early e = rw (eq-eqb (length (tb .parents)) 0 e)
-
-  module _ (e : length (tb .parents) ≢ 0) where
-    pub end-layouts : n ≢ length (tb .parents) → uncheckedVerdict line tb false (endFrame n m) ≡ refused 7 line
-    unfolding uncheckedVerdict uncheckedContent outOfOrder contentVerdict
-    end-layouts h = rw (ne-eqb (length (tb .parents)) 0 e, ne-eqb n (length (tb .parents)) h)
-
-    pub end-jobs : n ≡ length (tb .parents) → m ≢ jobs tb → uncheckedVerdict line tb false (endFrame n m) ≡ refused 7 line
-    unfolding uncheckedVerdict uncheckedContent outOfOrder contentVerdict
-    end-jobs g h = rw (ne-eqb (length (tb .parents)) 0 e, eq-eqb n (length (tb .parents)) g, ne-eqb m (jobs tb) h)
-
-    pub end-right : n ≡ length (tb .parents) → m ≡ jobs tb → EndFrame line tb false (endFrame n m)
-    unfolding uncheckedVerdict uncheckedContent outOfOrder contentVerdict
-    end-right g h =
+    pub layout-right : length (tb .parents) < layoutLimit → rightParent (length (tb .parents)) p ≡ true → LayoutFrame line tb own false (layoutFrame p) p
+    unfolding frameVerdict contentVerdict endWithoutLayout isEnd
+    layout-right h right =
         record {
-          accepts = rw (ne-eqb (length (tb .parents)) 0 e, eq-eqb n (length (tb .parents)) g, eq-eqb m (jobs tb) h);
-          n = n;
-          m = m;
+          not-ended = refl;
+          accepts = rw (lt-leb layoutLimit (length (tb .parents)) h, right);
           is = refl;
-          some-layout = omega arith;
+          room = h;
+          right = right;
         }
+
+  module _ (t b : ℕ) where
+    pub job-beyond : (mark : ℕ) → jobLimit ≤ jobs tb → frameVerdict line tb own false (jobOf t b mark) ≡ refused 3 line
+    unfolding frameVerdict contentVerdict endWithoutLayout isEnd
+    job-beyond zero h = rw (le-leb jobLimit (jobs tb) h)
+    job-beyond (suc mark) h = rw (le-leb jobLimit (jobs tb) h)
+
+    accepts-job : (mark : ℕ) → jobs tb < jobLimit → frameVerdict line tb own false (jobOf t b mark) ≡ accepted
+    unfolding frameVerdict contentVerdict endWithoutLayout isEnd
+    accepts-job zero h = rw (lt-leb jobLimit (jobs tb) h)
+    accepts-job (suc mark) h = rw (lt-leb jobLimit (jobs tb) h)
+
+    pub job-right : (mark : ℕ) → mark ≤ 1 → jobs tb < jobLimit → JobFrame line tb own false (jobOf t b mark) t b mark
+    job-right mark one h = record { not-ended = refl; accepts = accepts-job mark h; is = refl; one = one; room = h }
+
+  module _ (n m : ℕ) where
+    pub end-empty : length (tb .parents) ≡ 0 → frameVerdict line tb own false (endFrame n m) ≡ refused 2 line
+    unfolding frameVerdict endWithoutLayout isEnd
+    end-empty e = rw (eq-eqb (length (tb .parents)) 0 e)
+
+    module _ (e : length (tb .parents) ≢ 0) where
+      pub end-layouts : n ≢ length (tb .parents) → frameVerdict line tb own false (endFrame n m) ≡ refused 7 line
+      unfolding frameVerdict contentVerdict endWithoutLayout isEnd
+      end-layouts h = rw (ne-eqb (length (tb .parents)) 0 e, ne-eqb n (length (tb .parents)) h)
+
+      pub end-jobs : n ≡ length (tb .parents) → m ≢ jobs tb → frameVerdict line tb own false (endFrame n m) ≡ refused 7 line
+      unfolding frameVerdict contentVerdict endWithoutLayout isEnd
+      end-jobs g h = rw (ne-eqb (length (tb .parents)) 0 e, eq-eqb n (length (tb .parents)) g, ne-eqb m (jobs tb) h)
+
+      pub end-right : n ≡ length (tb .parents) → m ≡ jobs tb → EndFrame line tb own false (endFrame n m)
+      unfolding frameVerdict contentVerdict endWithoutLayout isEnd
+      end-right g h =
+          record {
+            not-ended = refl;
+            n = n;
+            m = m;
+            is = refl;
+            some-layout = omega arith;
+            judged = rw (ne-eqb (length (tb .parents)) 0 e, eq-eqb n (length (tb .parents)) g, eq-eqb m (jobs tb) h);
+          }

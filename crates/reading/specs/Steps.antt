@@ -1,29 +1,28 @@
--- What each step of the reader promises. The table so far is tb; the bytes from `at` on are still to be read, the first of their lines
--- having the number `line`.
+-- What each step of the reader promises. The table so far is tb, the lines of its jobs are own; the bytes from `at` on are still to be read, the first of their
+-- lines having the number `line`.
 use Prim.Native.Nat.{ℕ, zero, suc, _+_, _-_, _*_, _≤_, _<_}
 use mathlib.Core.Path.{_≡_}
 use mathlib.Core.Bool.{Bool, true, false}
-use mathlib.Core.Option.{Option}
-use mathlib.Core.List.{List}
-use lib.ListN.{length, take, drop, replicate}
+use mathlib.Core.List.{List, [], _∷_, _++_}
+use lib.ListN.{length, getD, take, drop, replicate}
 use Rattle.model.specs.Verdict.{Verdict, accepted, refused}
 use Rattle.model.specs.Tree.{FFFF, layoutLimit, rightParent, layoutsFrom}
 use Rattle.model.specs.Jobs.{Table, tableOf, jobs, jobLimit}
-use Rattle.model.specs.Table.{lines, firstLine, layoutFrame, jobFrame, soloFrame, endFrame, frameOf, withJob, extended, emptyTable}
+use Rattle.model.specs.Planning.{jobsVerdict}
+use Rattle.model.specs.Table.{lines, layoutFrame, jobFrame, soloFrame, endFrame, onItsLine, frameVerdict, withJob, extended, Reading, read, stopped, unlessRefused, readLines, readTable}
 use Rattle.model.specs.Table as Format
-use Rattle.reading.specs.Unchecked.{Halted, halted, unchecked, uncheckedVerdict}
+use Rattle.model.specs.declared.Refusal.{Refusal}
+use Rattle.own_line.specs.OwnLine.{jobLines, ownLinesFrom}
 use Rattle.reading.specs.declared.Step.{Step}
 use Rattle.reading.specs.declared.Step.the-variants as step
-use Rattle.reading.specs.declared.Stop.{Stop}
-use Rattle.reading.specs.declared.Stop.the-variants as stop
+use Rattle.reading.specs.declared.After.{After}
+use Rattle.reading.specs.declared.After.the-variants as after
+use Rattle.reading.specs.declared.Lines.{Lines}
+use Rattle.reading.specs.declared.Lines.the-variants as lines-read
 
--- what reading the bytes from `at` on comes to, the checks of jobs put off
-abbrev pub uncheckedFrom : List ℕ → ℕ → ℕ → Table → Bool → Halted
-uncheckedFrom bytes at line tb ended = unchecked (lines (drop at bytes)) line tb ended
-
--- the frame of the line that begins at `at`
-abbrev pub frameAt : List ℕ → ℕ → Option Format.Frame
-frameAt bytes at = frameOf (firstLine (drop at bytes))
+-- what reading the bytes from `at` on comes to
+abbrev pub readFrom : List ℕ → ℕ → ℕ → Table → List ℕ → Bool → Reading
+readFrom bytes at line tb own ended = readLines (lines (drop at bytes)) line tb own ended
 
 -- so many layouts, jobs and ends can have been read
 pub record Counted (layouts jobs ends : ℕ) : Type 0 where
@@ -34,7 +33,7 @@ pub record Counted (layouts jobs ends : ℕ) : Type 0 where
 -- the end was read
 abbrev pub endedAt : ℕ → Bool
 endedAt zero = false
-endedAt (suc n) = true
+endedAt (suc ends) = true
 
 -- a job, or with a mark a solo job
 abbrev pub jobOf : ℕ → ℕ → ℕ → Format.Frame
@@ -43,68 +42,72 @@ jobOf t b (suc mark) = soloFrame t b
 
 -- ---- a frame
 
-module _ (line : ℕ) (tb : Table) (ended : Bool) (f : Format.Frame) where
+module _ (line : ℕ) (tb : Table) (own : List ℕ) (ended : Bool) (f : Format.Frame) where
   -- it is accepted as a layout
   pub record LayoutFrame (p : ℕ) : Type 0 where
-    pub accepts : uncheckedVerdict line tb ended f ≡ accepted
+    pub not-ended : ended ≡ false
+    pub accepts : frameVerdict line tb own ended f ≡ accepted
     pub is : f ≡ layoutFrame p
-    pub no-job : jobs tb ≡ 0
     pub room : length (tb .parents) < layoutLimit
     pub right : rightParent (length (tb .parents)) p ≡ true
 
   -- as a job
   pub record JobFrame (t b mark : ℕ) : Type 0 where
-    pub accepts : uncheckedVerdict line tb ended f ≡ accepted
+    pub not-ended : ended ≡ false
+    pub accepts : frameVerdict line tb own ended f ≡ accepted
     pub is : f ≡ jobOf t b mark
     pub one : mark ≤ 1
-    pub some-layout : 0 < length (tb .parents)
     pub room : jobs tb < jobLimit
 
-  -- as the end
+  -- it is an end with right counts, and the verdict is that on the jobs
   pub record EndFrame : Type 0 where
-    pub accepts : uncheckedVerdict line tb ended f ≡ accepted
+    pub not-ended : ended ≡ false
     pub n : ℕ
     pub m : ℕ
     pub is : f ≡ endFrame n m
     pub some-layout : 0 < length (tb .parents)
+    pub judged : frameVerdict line tb own ended f ≡ onItsLine own (jobsVerdict tb)
 
   abbrev pub FrameOutcome : Step → Type 0
   FrameOutcome (step.Layout p) = LayoutFrame (p .0)
   FrameOutcome (step.Job t b mark) = JobFrame (t .0) (b .0) mark
   FrameOutcome step.End = EndFrame
-  FrameOutcome (step.Refused r) = uncheckedVerdict line tb ended f ≡ refused (r .number) (r .place)
+  FrameOutcome (step.Refused r) = frameVerdict line tb own ended f ≡ refused (r .number) (r .place)
 
 -- ---- a line
 
-module _ (bytes : List ℕ) (at line : ℕ) (tb : Table) (ended : Bool) where
+module _ (bytes : List ℕ) (at line : ℕ) (tb : Table) (own : List ℕ) (ended : Bool) where
   -- it is a layout, and reading goes on after it
   pub record LayoutLine (p : ℕ) : Type 0 where
     pub not-ended : ended ≡ false
     pub within : at + 7 ≤ length bytes
-    pub no-job : jobs tb ≡ 0
     pub room : length (tb .parents) < layoutLimit
     pub right : rightParent (length (tb .parents)) p ≡ true
-    pub next : uncheckedFrom bytes at line tb ended ≡ uncheckedFrom bytes (at + 7) (suc line) (extended tb (layoutFrame p)) false
+    pub next : readFrom bytes at line tb own ended ≡ readFrom bytes (at + 7) (suc line) (extended tb (layoutFrame p)) own false
+    pub ahead : ownLinesFrom bytes at line ≡ ownLinesFrom bytes (at + 7) (suc line)
 
+  -- a job, whose own line it is
   pub record JobLine (t b mark : ℕ) : Type 0 where
     pub not-ended : ended ≡ false
     pub within : at + 11 ≤ length bytes
     pub one : mark ≤ 1
-    pub some-layout : 0 < length (tb .parents)
     pub room : jobs tb < jobLimit
-    pub next : uncheckedFrom bytes at line tb ended ≡ uncheckedFrom bytes (at + 11) (suc line) (withJob tb t b mark) false
+    pub next : readFrom bytes at line tb own ended ≡ readFrom bytes (at + 11) (suc line) (withJob tb t b mark) (own ++ line ∷ []) false
+    pub ahead : ownLinesFrom bytes at line ≡ line ∷ ownLinesFrom bytes (at + 11) (suc line)
 
+  -- the end: the jobs are judged, and then comes what stands after it
   pub record EndLine : Type 0 where
     pub not-ended : ended ≡ false
     pub within : at + 11 ≤ length bytes
     pub some-layout : 0 < length (tb .parents)
-    pub next : uncheckedFrom bytes at line tb ended ≡ uncheckedFrom bytes (at + 11) (suc line) tb true
+    pub next : readFrom bytes at line tb own ended ≡ unlessRefused (onItsLine own (jobsVerdict tb)) (readFrom bytes (at + 11) (suc line) tb own true)
+    pub ahead : ownLinesFrom bytes at line ≡ []
 
   abbrev pub StepOutcome : Step → Type 0
   StepOutcome (step.Layout p) = LayoutLine (p .0)
   StepOutcome (step.Job t b mark) = JobLine (t .0) (b .0) mark
   StepOutcome step.End = EndLine
-  StepOutcome (step.Refused r) = uncheckedFrom bytes at line tb ended ≡ halted tb ended (refused (r .number) (r .place))
+  StepOutcome (step.Refused r) = readFrom bytes at line tb own ended ≡ stopped (r .number) (r .place)
 
 -- ---- the buffers
 
@@ -148,26 +151,61 @@ pub record Holds (parents tops bottoms marks : List ℕ) (n m : ℕ) : Type 0 wh
   pub bottoms-hold : m ≤ length bottoms
   pub marks-hold : m ≤ length marks
   pub right : layoutsFrom 0 (take n parents) ≡ accepted
-  pub some-layout : 0 < m → 0 < n
   pub spare : Spare parents tops bottoms marks n m
 
--- before the line at `at`
+-- ---- so far
+
+-- each of the first m jobs has its own line among the first k
+abbrev pub Standing : List ℕ → ℕ → ℕ → Type 0
+Standing own m k = (j : ℕ) → j < m → (0 < getD own j 0) × (getD own j 0 ≤ k)
+
+-- the lines of the jobs that are still to be read; behind the end there is none
+abbrev pub ownAhead : Bool → List ℕ → ℕ → ℕ → List ℕ
+ownAhead false bytes at line = ownLinesFrom bytes at line
+ownAhead true bytes at line = []
+
+-- behind the end the jobs come first
+abbrev pub judgedFirst : Bool → Table → List ℕ → Reading → Reading
+judgedFirst false tb own r = r
+judgedFirst true tb own r = unlessRefused (onItsLine own (jobsVerdict tb)) r
+
+-- before the line at `at`, of n layouts, m jobs and so many ends
 pub record SoFar (bytes parents tops bottoms marks : List ℕ) (at n m ends : ℕ) : Type 0 where
   pub holds : Holds parents tops bottoms marks n m
   pub one-end : ends ≤ 1
   pub end-last : 0 < ends → 0 < n
   pub within : at ≤ length bytes
   pub passed : 7 * n + 11 * m ≤ at
-  pub next : unchecked (lines bytes) 1 emptyTable false ≡ uncheckedFrom bytes at (n + m + ends + 1) (held parents tops bottoms marks n m) (endedAt ends)
+  pub own : List ℕ
+  pub counted : length own ≡ m
+  pub standing : Standing own m (n + m)
+  pub ahead : own ++ ownAhead (endedAt ends) bytes at (n + m + ends + 1) ≡ jobLines 1 (lines bytes)
+  pub next : readTable bytes ≡ judgedFirst (endedAt ends) (held parents tops bottoms marks n m) own (readFrom bytes at (n + m + ends + 1) (held parents tops bottoms marks n m) own (endedAt ends))
 
--- what stopped the reading
-abbrev pub stopVerdict : Stop → Verdict
-stopVerdict stop.Done = accepted
-stopVerdict (stop.Refused r) = refused (r .number) (r .place)
+-- ---- what the lines come to
 
--- the lines are read: n layouts and m jobs before what stopped the reading
-pub record LinesRead (bytes parents tops bottoms marks : List ℕ) (n m : ℕ) (s : Stop) : Type 0 where
+-- what stands after the end makes of the table that was read
+abbrev pub readAfter : After → Table → Reading
+readAfter after.Nothing tb = read tb
+readAfter (after.Line r) tb = stopped (r .number) (r .place)
+
+-- what a table with a right end comes to, its jobs having the verdict v
+abbrev pub judgedAtEnd : List ℕ → Table → After → Verdict → Reading
+judgedAtEnd bytes tb a v = unlessRefused (onItsLine (jobLines 1 (lines bytes)) v) (readAfter a tb)
+
+-- the end was read, after n layouts and m jobs
+pub record EndRead (bytes parents tops bottoms marks : List ℕ) (n m : ℕ) (a : After) : Type 0 where
   pub holds : Holds parents tops bottoms marks n m
-  pub ended : Bool
-  pub read : unchecked (lines bytes) 1 emptyTable false ≡ halted (held parents tops bottoms marks n m) ended (stopVerdict s)
-  pub done : stopVerdict s ≡ accepted → 0 < n
+  pub some-layout : 0 < n
+  pub standing : Standing (jobLines 1 (lines bytes)) m (n + m)
+  pub next : readTable bytes ≡ judgedAtEnd bytes (held parents tops bottoms marks n m) a (jobsVerdict (held parents tops bottoms marks n m))
+
+-- what a refusal leaves in the cells is open
+abbrev pub LinesRead : List ℕ → List ℕ → List ℕ → List ℕ → List ℕ → Lines → Type 0
+LinesRead bytes parents tops bottoms marks (lines-read.Ended c a) = EndRead bytes parents tops bottoms marks (c .layouts) (c .jobs) a
+LinesRead bytes parents tops bottoms marks (lines-read.Refused r) = readTable bytes ≡ stopped (r .number) (r .place)
+
+-- where the reading stops, after n layouts, m jobs and so many ends: before the end it is refused, behind the end it tells what stands there
+abbrev pub Stopped : ℕ → ℕ → ℕ → After → Refusal → Lines → Type 0
+Stopped n m zero a x r = r ≡ lines-read.Refused x
+Stopped n m (suc ends) a x r = r ≡ lines-read.Ended (record { layouts = n; jobs = m }) a

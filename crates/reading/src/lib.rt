@@ -1,22 +1,22 @@
-// Reads the lines into the buffers, in one pass. The checks of jobs, 5 and 6, are put off: they need the whole tree, and the first job that they refuse stands
-// before the line that stopped the reading.
+// Reads the lines into the buffers, in one pass. The jobs are not checked here: 5 and 6 need the whole tree, which is known at the end.
 use frame::LAYOUT_LINE;
 use frame::LONG_LINE;
+use model::Counts;
 use model::Frame;
 use model::FrameRead;
 use model::JobNumber;
 use model::LayoutNumber;
 use model::Refusal;
 ghost use mathlib.Core.Path.{_≡_};
-ghost use mathlib.Core.Bool.{cond};
-ghost use Prim.Native.Nat.{_+_, _<_, _≤_};
+ghost use mathlib.Core.Bool.{false};
+ghost use mathlib.Core.List.{List};
+ghost use Prim.Native.Nat.{ℕ, _+_, _<_, _≤_};
 ghost use lib.ListN.{length};
-ghost use Rattle.model.specs.Verdict.{accepted, refused};
 ghost use Rattle.model.specs.Jobs.{Table};
 ghost use Rattle.model.specs.Table.{layoutFrame, endFrame};
 ghost use Rattle.model.specs.Answers.{frameCase};
 ghost use Rattle.frame.specs.Fields.{DigitValues};
-ghost use Rattle.reading.specs.Steps.{Counted, endedAt, FrameOutcome, StepOutcome, jobOf, BuffersReady, stopVerdict, LinesRead};
+ghost use Rattle.reading.specs.Steps.{Counted, endedAt, FrameOutcome, StepOutcome, jobOf, BuffersReady, LinesRead, Stopped};
 
 // How far the reading has come: where the next line begins, and how many layouts, jobs and ends stand before it.
 struct Progress {
@@ -35,17 +35,17 @@ enum Step {
     Refused(Refusal),
 }
 
-// What stopped the reading.
-pub enum Stop {
-    Done,
-    Refused(Refusal),
+// What stands after the end line: nothing in a whole table.
+pub enum After {
+    Nothing,
+    Line(Refusal),
 }
 
-// The layouts and jobs in the buffers, and what stopped the reading after them.
-pub struct Lines {
-    pub layouts: usize,
-    pub jobs: usize,
-    pub stop: Stop,
+// What the lines come to: an end with right counts and what stands after it, or a refusal of a line before that. What stands after the end waits for the jobs to be
+// checked: a wrong one comes first.
+pub enum Lines {
+    Ended(Counts, After),
+    Refused(Refusal),
 }
 
 // The number of the next line, counted from 1.
@@ -66,17 +66,11 @@ fn refuse(number: u16, p: Progress) -> Step
     })
 }
 
-// A layout: 2 after the end or a job, 3 beyond the limit, 4 with a wrong parent.
+// A layout before the end: 3 beyond the limit, 4 with a wrong parent.
 fn judge_layout(parent: LayoutNumber, p: Progress) -> Step
     requires { ⌜ Counted (p .layouts) (p .jobs) (p .ends) ⌝ }
-    ensures { λ r. ⌜ ((tb : Table) → length (tb .parents) ≡ p .layouts → length (tb .tops) ≡ p .jobs → FrameOutcome (p .layouts + p .jobs + p .ends + 1) tb (endedAt (p .ends)) (layoutFrame (parent .0)) r) ⌝ }
+    ensures { λ r. ⌜ ((tb : Table) (own : List ℕ) → length (tb .parents) ≡ p .layouts → length (tb .tops) ≡ p .jobs → FrameOutcome (p .layouts + p .jobs + p .ends + 1) tb own false (layoutFrame (parent .0)) r) ⌝ }
 {
-    if p.ends != 0 {
-        return refuse(2, p);
-    }
-    if 0 < p.jobs {
-        return refuse(2, p);
-    }
     if LayoutNumber::LIMIT <= p.layouts {
         return refuse(3, p);
     }
@@ -86,32 +80,23 @@ fn judge_layout(parent: LayoutNumber, p: Progress) -> Step
     refuse(4, p)
 }
 
-// A job, or with mark 1 a solo job: 2 after the end or before any layout, 3 beyond the limit.
+// A job before the end, or with mark 1 a solo job: 3 beyond the limit.
 fn judge_job(top: LayoutNumber, bottom: LayoutNumber, mark: usize, p: Progress) -> Step
     requires { ⌜ Counted (p .layouts) (p .jobs) (p .ends) ⌝ }
     requires { ⌜ mark ≤ 1 ⌝ }
-    ensures { λ r. ⌜ ((tb : Table) → length (tb .parents) ≡ p .layouts → length (tb .tops) ≡ p .jobs → FrameOutcome (p .layouts + p .jobs + p .ends + 1) tb (endedAt (p .ends)) (jobOf (top .0) (bottom .0) mark) r) ⌝ }
+    ensures { λ r. ⌜ ((tb : Table) (own : List ℕ) → length (tb .parents) ≡ p .layouts → length (tb .tops) ≡ p .jobs → FrameOutcome (p .layouts + p .jobs + p .ends + 1) tb own false (jobOf (top .0) (bottom .0) mark) r) ⌝ }
 {
-    if p.ends != 0 {
-        return refuse(2, p);
-    }
-    if p.layouts == 0 {
-        return refuse(2, p);
-    }
     if JobNumber::LIMIT <= p.jobs {
         return refuse(3, p);
     }
     Step::Job(top, bottom, mark)
 }
 
-// The end: 2 after an end or before any layout, 7 with wrong counts.
+// The first end: 2 without a layout, 7 with wrong counts.
 fn judge_end(n: usize, m: usize, p: Progress) -> Step
     requires { ⌜ Counted (p .layouts) (p .jobs) (p .ends) ⌝ }
-    ensures { λ r. ⌜ ((tb : Table) → length (tb .parents) ≡ p .layouts → length (tb .tops) ≡ p .jobs → FrameOutcome (p .layouts + p .jobs + p .ends + 1) tb (endedAt (p .ends)) (endFrame n m) r) ⌝ }
+    ensures { λ r. ⌜ ((tb : Table) (own : List ℕ) → length (tb .parents) ≡ p .layouts → length (tb .tops) ≡ p .jobs → FrameOutcome (p .layouts + p .jobs + p .ends + 1) tb own false (endFrame n m) r) ⌝ }
 {
-    if p.ends != 0 {
-        return refuse(2, p);
-    }
     if p.layouts == 0 {
         return refuse(2, p);
     }
@@ -124,11 +109,14 @@ fn judge_end(n: usize, m: usize, p: Progress) -> Step
     Step::End
 }
 
-// A line by its frame.
+// A line by its frame: 2 after the end.
 fn judge(line_frame: Frame, p: Progress) -> Step
     requires { ⌜ Counted (p .layouts) (p .jobs) (p .ends) ⌝ }
-    ensures { λ r. ⌜ ((tb : Table) → length (tb .parents) ≡ p .layouts → length (tb .tops) ≡ p .jobs → FrameOutcome (p .layouts + p .jobs + p .ends + 1) tb (endedAt (p .ends)) (frameCase «line_frame») r) ⌝ }
+    ensures { λ r. ⌜ ((tb : Table) (own : List ℕ) → length (tb .parents) ≡ p .layouts → length (tb .tops) ≡ p .jobs → FrameOutcome (p .layouts + p .jobs + p .ends + 1) tb own (endedAt (p .ends)) (frameCase «line_frame») r) ⌝ }
 {
+    if p.ends != 0 {
+        return refuse(2, p);
+    }
     match line_frame {
         Frame::Job(t, b) => judge_job(t, b, 0, p),
         Frame::Solo(t, b) => judge_job(t, b, 1, p),
@@ -142,7 +130,7 @@ fn next_step(digits: &[u32; 256], bytes: &[u8], p: Progress) -> Step
     requires { ⌜ DigitValues (now digits) ⌝ }
     requires { ⌜ Counted (p .layouts) (p .jobs) (p .ends) ⌝ }
     requires { ⌜ p .at < length (now bytes) ⌝ }
-    ensures { λ r. ⌜ ((tb : Table) → length (tb .parents) ≡ p .layouts → length (tb .tops) ≡ p .jobs → StepOutcome (now (bytes .entry)) (p .at) (p .layouts + p .jobs + p .ends + 1) tb (endedAt (p .ends)) r) ⌝ }
+    ensures { λ r. ⌜ ((tb : Table) (own : List ℕ) → length (tb .parents) ≡ p .layouts → length (tb .tops) ≡ p .jobs → StepOutcome (now (bytes .entry)) (p .at) (p .layouts + p .jobs + p .ends + 1) tb own (endedAt (p .ends)) r) ⌝ }
 {
     let answer = frame::read_frame(digits, bytes, p.at, line_number(p));
     match answer {
@@ -151,18 +139,41 @@ fn next_step(digits: &[u32; 256], bytes: &[u8], p: Progress) -> Step
     }
 }
 
-// What stands after the last line: bytes that stop with no end line are refused.
-fn at_last(p: Progress) -> Stop
+// A table that was read to its end, and what stands after it.
+fn ended(p: Progress, after: After) -> Lines
     requires { ⌜ Counted (p .layouts) (p .jobs) (p .ends) ⌝ }
-    ensures { λ r. ⌜ stopVerdict r ≡ cond (endedAt (p .ends)) accepted (refused 7 (p .layouts + p .jobs + p .ends + 1)) ⌝ }
+    ensures { λ r. ⌜ r ≡ Lines.Ended (record { layouts = p .layouts; jobs = p .jobs }) «after» ⌝ }
+{
+    let counts = Counts {
+        layouts: p.layouts as u16,
+        jobs: p.jobs as u16,
+    };
+    Lines::Ended(counts, after)
+}
+
+// What the lines come to where the line at p is refused.
+fn stopped(p: Progress, refusal: Refusal) -> Lines
+    requires { ⌜ Counted (p .layouts) (p .jobs) (p .ends) ⌝ }
+    ensures { λ r. ⌜ Stopped (p .layouts) (p .jobs) (p .ends) (After.Line refusal) refusal r ⌝ }
 {
     if p.ends == 0 {
-        return Stop::Refused(Refusal {
+        return Lines::Refused(refusal);
+    }
+    ended(p, After::Line(refusal))
+}
+
+// Where no line is left: bytes that stop with no end line are refused.
+fn at_last(p: Progress) -> Lines
+    requires { ⌜ Counted (p .layouts) (p .jobs) (p .ends) ⌝ }
+    ensures { λ r. ⌜ Stopped (p .layouts) (p .jobs) (p .ends) After.Nothing (record { number = 7; place = p .layouts + p .jobs + p .ends + 1 }) r ⌝ }
+{
+    if p.ends == 0 {
+        return Lines::Refused(Refusal {
             number: 7,
             place: line_number(p),
         });
     }
-    Stop::Done
+    ended(p, After::Nothing)
 }
 
 // Reads the lines into clear buffers.
@@ -174,7 +185,7 @@ pub fn read_unchecked(
     marks: &mut [u8],
 ) -> Lines
     requires { ⌜ BuffersReady (now bytes) (now parents) (now tops) (now bottoms) (now marks) ⌝ }
-    ensures { λ r. ⌜ LinesRead (now (bytes .entry)) (now (parents .exit)) (now (tops .exit)) (now (bottoms .exit)) (now (marks .exit)) (r .layouts) (r .jobs) (r .stop) ⌝ }
+    ensures { λ r. ⌜ LinesRead (now (bytes .entry)) (now (parents .exit)) (now (tops .exit)) (now (bottoms .exit)) (now (marks .exit)) r ⌝ }
 {
     let digits = frame::digit_values();
     let mut at = 0;
@@ -182,19 +193,16 @@ pub fn read_unchecked(
     let mut jobs = 0;
     let mut ends = 0;
     while at < bytes.len() {
-        let step = next_step(
-            &digits,
-            bytes,
-            Progress {
-                at,
-                layouts,
-                jobs,
-                ends,
-            },
-        );
+        let p = Progress {
+            at,
+            layouts,
+            jobs,
+            ends,
+        };
+        let step = next_step(&digits, bytes, p);
         match step {
-            Step::Layout(p) => {
-                parents[layouts] = p.0;
+            Step::Layout(parent) => {
+                parents[layouts] = parent.0;
                 layouts += 1;
                 at += LAYOUT_LINE;
             }
@@ -210,23 +218,14 @@ pub fn read_unchecked(
                 at += LONG_LINE;
             }
             Step::Refused(r) => {
-                return Lines {
-                    layouts,
-                    jobs,
-                    stop: Stop::Refused(r),
-                };
+                return stopped(p, r);
             }
         }
     }
-    let stop = at_last(Progress {
+    at_last(Progress {
         at,
         layouts,
         jobs,
         ends,
-    });
-    Lines {
-        layouts,
-        jobs,
-        stop,
-    }
+    })
 }

@@ -14,8 +14,9 @@ use Rattle.model.specs.Lists.{numbers}
 use Rattle.model.specs.Tree.{FFFF, layoutLimit, ancestorOrSelf, layoutsFrom, treeVerdict}
 use Rattle.model.specs.Jobs.{Table, jobs, jobLimit, top, bottom, jobVerdict}
 use Rattle.model.specs.Planning.{jobsVerdict}
-use Rattle.model.specs.Table.{Reading, read, stopped, unlessRefused, readTable, buffersVerdict, tableRead, readAnswer, readingAnswer}
+use Rattle.model.specs.Table.{onItsLine, Reading, read, stopped, unlessRefused, readTable, buffersVerdict, tableRead, readAnswer, readingAnswer}
 use Rattle.model.specs.Outcomes.{ReadAs}
+use Rattle.model.specs.declared.JobNumber.{JobNumber}
 use Rattle.model.specs.declared.Refusal.{Refusal}
 use Rattle.model.specs.declared.Counts.{Counts}
 use Rattle.model.specs.declared.TableRead.{TableRead}
@@ -29,9 +30,9 @@ use Rattle.jobs.specs.Accepted.{Accepted, table-accepted}
 use Rattle.jobs.specs.Checks.{checkVerdict, JobsChecked}
 use Rattle.jobs.specs.declared.JobCheck.{JobCheck}
 use Rattle.jobs.specs.declared.JobCheck.the-variants as check
-use Rattle.reading.specs.Unchecked.{onItsLine, checked, read-checked}
-use Rattle.reading.specs.Steps.{Unused, Spare, Roomy, BuffersReady, held, Holds, stopVerdict, LinesRead}
-use Rattle.reading.specs.declared.Stop.{Stop}
+use Rattle.own_line.specs.OwnLine.{ownLine}
+use Rattle.reading.specs.Steps.{judgedAtEnd, Unused, Spare, Roomy, BuffersReady, held, Holds, EndRead}
+use Rattle.reading.specs.declared.After.{After}
 
 -- ---- the lines
 
@@ -41,17 +42,21 @@ unfolding treeVerdict
 right-tree [] h few right = absurd (omega arith)
 right-tree (p ∷ ps) h few right = well-formed (p ∷ ps) right few
 
--- a refusal of the check names a job
-abbrev pub Answerable : ℕ → ℕ → JobCheck → Type 0
-Answerable n m check.Right = (n ≤ layoutLimit) × (m ≤ jobLimit)
-Answerable n m (check.Wrong number job) = (n ≤ layoutLimit) × (job .0 ≤ jobLimit)
+-- a wrong job has its own line, and that is a number of 16 bits
+abbrev pub Placed : List ℕ → JobCheck → Type 0
+Placed bytes c = (number : ℕ) (job : JobNumber) → c ≡ check.Wrong number job → (0 < ownLine bytes (job .0)) × (ownLine bytes (job .0) < 65536)
+
+-- the answer tells the reading t: N and M of the table that is read, or the refusal
+abbrev pub Told : Reading → Table → TableRead → Type 0
+Told t tb (Read c) = (t ≡ read tb) × (c .layouts ≡ length (tb .parents)) × (c .jobs ≡ jobs tb)
+Told t tb (Refused r) = t ≡ stopped (r .number) (r .place)
 
 -- the job that is refused first is one of the list
-first-refused : (f : ℕ → Verdict) (l : List ℕ) (number place : ℕ) → ((j : ℕ) → Mem j l → (n p : ℕ) → f j ≡ refused n p → p < jobLimit) → foldr _then_ accepted (map f l) ≡ refused number place → place < jobLimit
-first-refused f [] number place h e = let apart : _≡_ {A = ℕ} 0 1 = cc in absurd (omega arith)
-first-refused f (x ∷ xs) number place h e = go (f x) refl (first-refused f xs number place (λ j m. h j (there m)))
+first-refused : (f : ℕ → Verdict) (k : ℕ) (l : List ℕ) (number place : ℕ) → ((j : ℕ) → Mem j l → (n p : ℕ) → f j ≡ refused n p → p < k) → foldr _then_ accepted (map f l) ≡ refused number place → place < k
+first-refused f k [] number place h e = let apart : _≡_ {A = ℕ} 0 1 = cc in absurd (omega arith)
+first-refused f k (x ∷ xs) number place h e = go (f x) refl (first-refused f k xs number place (λ j m. h j (there m)))
   where
-    go : (v : Verdict) → f x ≡ v → (foldr _then_ accepted (map f xs) ≡ refused number place → place < jobLimit) → place < jobLimit
+    go : (v : Verdict) → f x ≡ v → (foldr _then_ accepted (map f xs) ≡ refused number place → place < k) → place < k
     go accepted q later = later (rw q at e)
     go (refused n p) q later = h x (here refl) number place (q ∙ (rw q at e))
 
@@ -64,16 +69,11 @@ own-place ps t b j n p e = go (leb (length ps) t || leb (length ps) b) (not (anc
     go false true q = cc
     go false false q = let apart : _≡_ {A = ℕ} 0 1 = cc in absurd (omega arith)
 
-refused-job : (tb : Table) → jobs tb ≤ jobLimit → (number place : ℕ) → jobsVerdict tb ≡ refused number place → place < jobLimit
+refused-job : (tb : Table) (number place : ℕ) → jobsVerdict tb ≡ refused number place → place < jobs tb
 unfolding jobsVerdict
-refused-job tb few number place e =
-    first-refused (λ (j : ℕ). jobVerdict (tb .parents) (top tb j) (bottom tb j) j) (numbers (jobs tb)) number place
+refused-job tb number place e =
+    first-refused (λ (j : ℕ). jobVerdict (tb .parents) (top tb j) (bottom tb j) j) (jobs tb) (numbers (jobs tb)) number place
     (λ j m n p q. omega (arith, own-place (tb .parents) (top tb j) (bottom tb j) j n p q, numbers-mem (jobs tb) m)) e
-
--- the counts n and m where both verdicts accept, else the first refusal
-abbrev pub answerVerdict : ℕ → ℕ → Verdict → Verdict → TableRead → Type 0
-answerVerdict n m jobs stop (Read c) = (jobs ≡ accepted) × (stop ≡ accepted) × (c .layouts ≡ n) × (c .jobs ≡ m)
-answerVerdict n m jobs stop (Refused r) = (onItsLine n jobs then stop) ≡ refused (r .number) (r .place)
 
 -- the reading t is the table of n layouts and m jobs in the first cells, which *Plan* accepts; no other cell is used, and the layouts are settled
 pub record TableHeld (t : Reading) (parents tops bottoms marks tree : List ℕ) (n m : ℕ) : Type 0 where
@@ -87,8 +87,8 @@ abbrev pub LinesOutcome : Reading → List ℕ → List ℕ → List ℕ → Lis
 LinesOutcome t parents tops bottoms marks tree (Read c) = TableHeld t parents tops bottoms marks tree (c .layouts) (c .jobs)
 LinesOutcome t parents tops bottoms marks tree (Refused r) = t ≡ stopped (r .number) (r .place)
 
-module _ (bytes parents tops bottoms marks tree : List ℕ) (n m : ℕ) (s : Stop) (c : JobCheck) (l : LinesRead bytes parents tops bottoms marks n m s)
-    (spanned : 0 < length (take n parents) → Spanned (take n parents) tree) (k : JobsChecked n (take m tops) (take m bottoms) tree c) where
+module _ (bytes parents tops bottoms marks tree : List ℕ) (n m : ℕ) (a : After) (c : JobCheck) (l : EndRead bytes parents tops bottoms marks n m a)
+    (spanned : Spanned (take n parents) tree) (k : JobsChecked n (take m tops) (take m bottoms) tree c) where
   counted-layouts : length (take n parents) ≡ n
   counted-layouts = length-take-le n parents (l .holds .parents-hold)
 
@@ -97,34 +97,34 @@ module _ (bytes parents tops bottoms marks tree : List ℕ) (n m : ℕ) (s : Sto
 
   -- the check is that of the table in the cells
   jobs-checked : jobsVerdict (held parents tops bottoms marks n m) ≡ checkVerdict c
-  jobs-checked = k .verdict (take n parents) (take m marks) counted-layouts (λ h. spanned (omega (arith, counted-layouts, counted-jobs, l .holds .some-layout (omega (arith, counted-jobs)))))
+  jobs-checked = k .verdict (take n parents) (take m marks) counted-layouts (λ h. spanned)
 
-  pub answerable : Answerable n m c
-  answerable = go c jobs-checked
-    where
-      go : (x : JobCheck) → jobsVerdict (held parents tops bottoms marks n m) ≡ checkVerdict x → Answerable n m x
-      go check.Right e = (l .holds .few-layouts, l .holds .few-jobs)
-      go (check.Wrong number job) e = (l .holds .few-layouts, omega (arith, refused-job (held parents tops bottoms marks n m) (rw counted-jobs (l .holds .few-jobs)) number (job .0) e))
+  pub wrong-placed : Placed bytes c
+  wrong-placed number job is =
+      let one : job .0 < length (take m tops) = refused-job (held parents tops bottoms marks n m) number (job .0) (jobs-checked ∙ ap checkVerdict is) in
+      let own = l .standing (job .0) (omega (arith, counted-jobs)) in
+      (own .0, omega (arith, own .1, l .holds .few-layouts, l .holds .few-jobs))
 
   -- what the bytes come to
-  checked-is : readTable bytes ≡ unlessRefused (onItsLine n (checkVerdict c) then stopVerdict s) (read (held parents tops bottoms marks n m))
-  unfolding checked
-  checked-is = read-checked bytes ∙ ap checked (l .read) ∙ rw (counted-layouts, jobs-checked) refl
+  judged-is : readTable bytes ≡ judgedAtEnd bytes (held parents tops bottoms marks n m) a (checkVerdict c)
+  judged-is = l .next ∙ rw jobs-checked refl
 
-  pub lines-outcome : (r : TableRead) → answerVerdict n m (checkVerdict c) (stopVerdict s) r → LinesOutcome (readTable bytes) parents tops bottoms marks tree r
-  unfolding unlessRefused
-  lines-outcome (Refused r) a = checked-is ∙ rw a refl
-  lines-outcome (Read x) a =
+  -- a table is read only where no job is wrong
+  right-jobs : (v : Verdict) → judgedAtEnd bytes (held parents tops bottoms marks n m) a v ≡ read (held parents tops bottoms marks n m) → v ≡ accepted
+  unfolding unlessRefused onItsLine
+  right-jobs accepted e = refl
+  right-jobs (refused number place) e = let apart : _≡_ {A = ℕ} 0 1 = cc in absurd (omega arith)
+
+  pub lines-outcome : (r : TableRead) → Told (judgedAtEnd bytes (held parents tops bottoms marks n m) a (checkVerdict c)) (held parents tops bottoms marks n m) r → LinesOutcome (readTable bytes) parents tops bottoms marks tree r
+  lines-outcome (Refused r) t = judged-is ∙ t
+  lines-outcome (Read x) t =
       let h = l .holds in
-      let some : 0 < length (take n parents) = omega (arith, counted-layouts, l .done (a .1)) in
-      let s = spanned some in
-      let right : jobsVerdict (held parents tops bottoms marks n m) ≡ accepted = jobs-checked ∙ a .0 in
-      rw (a .2, a .3)
+      rw (t .1 ∙ counted-layouts, t .2 ∙ counted-jobs)
       (record {
-        whole = checked-is ∙ rw (a .0, a .1) refl;
+        whole = judged-is ∙ t .0;
         holds = h;
-        spanned = s;
-        table = table-accepted (held parents tops bottoms marks n m) (s .tree) (rw counted-jobs (h .few-jobs)) (length-take-le m bottoms (h .bottoms-hold) ∙ sym counted-jobs) (length-take-le m marks (h .marks-hold) ∙ sym counted-jobs) right;
+        spanned = spanned;
+        table = table-accepted (held parents tops bottoms marks n m) (spanned .tree) (rw counted-jobs (h .few-jobs)) (length-take-le m bottoms (h .bottoms-hold) ∙ sym counted-jobs) (length-take-le m marks (h .marks-hold) ∙ sym counted-jobs) (jobs-checked ∙ right-jobs (checkVerdict c) (t .0));
       })
 
 -- ---- the buffers' sizes

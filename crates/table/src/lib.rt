@@ -5,21 +5,20 @@ use model::JobNumber;
 use model::LayoutNumber;
 use model::Refusal;
 use model::TableRead;
+use reading::After;
 use reading::Lines;
-use reading::Stop;
 use settle::TREE;
 ghost use mathlib.Core.Path.{_≡_};
 ghost use mathlib.Core.Bool.{not};
-ghost use Prim.Native.Nat.{_+_, _<_, _≤_};
 ghost use lib.ListN.{length};
 ghost use Rattle.model.specs.Verdict.{accepted, refuseIf};
-ghost use Rattle.model.specs.Tree.{layoutLimit, layoutsFrom};
+ghost use Rattle.model.specs.Jobs.{Table};
 ghost use Rattle.model.specs.Table.{readTable, buffersVerdict};
 ghost use Rattle.model.specs.Outcomes.{ReadAs, ReadOutcome};
-ghost use Rattle.settle.specs.Spanned.{treeCells, Spanned};
+ghost use Rattle.settle.specs.Spanned.{treeCells};
 ghost use Rattle.jobs.specs.Checks.{checkVerdict};
-ghost use Rattle.reading.specs.Steps.{Spare, BuffersReady, stopVerdict};
-ghost use Rattle.table.specs.Whole.{BuffersLong, Answerable, answerVerdict, LinesOutcome};
+ghost use Rattle.reading.specs.Steps.{Spare, BuffersReady, judgedAtEnd};
+ghost use Rattle.table.specs.Whole.{BuffersLong, Placed, Told, LinesOutcome};
 
 // As buffers are where nothing is used.
 fn clear(parents: &mut [u16], tops: &mut [u16], bottoms: &mut [u16], marks: &mut [u8])
@@ -31,44 +30,25 @@ fn clear(parents: &mut [u16], tops: &mut [u16], bottoms: &mut [u16], marks: &mut
     buffers::clear_marks(marks);
 }
 
-// Settles layouts with right parents, if there are any.
-fn settle_some(parents: &[u16], tree: &mut [u16; TREE])
-    requires { ⌜ length (now parents) ≤ layoutLimit ⌝ }
-    requires { ⌜ layoutsFrom 0 (now parents) ≡ accepted ⌝ }
-    requires { ⌜ length (now tree) ≡ treeCells ⌝ }
-    ensures { λ r. ⌜ (0 < length (now (parents .entry)) → Spanned (now (parents .entry)) (now (tree .exit))) ⌝ }
-{
-    if parents.len() == 0 {
-        return;
-    }
-    settle::settle_tree(parents, tree);
-}
-
-// The answer for the lines read, once their jobs are checked: the first wrong job comes before what stopped the reading.
-fn answer(lines: Lines, check: JobCheck) -> TableRead
-    requires { ⌜ Answerable (lines .layouts) (lines .jobs) «check» ⌝ }
-    ensures { λ r. ⌜ answerVerdict (lines .layouts) (lines .jobs) (checkVerdict «check») (stopVerdict (lines .stop)) r ⌝ }
+// The answer for a table with a right end, once its jobs are checked: the first wrong one, at its own line, comes before what stands after the end.
+fn answer(bytes: &[u8], counts: Counts, after: After, check: JobCheck) -> TableRead
+    requires { ⌜ Placed (now bytes) «check» ⌝ }
+    ensures { λ r. ⌜ ((tb : Table) → length (tb .parents) ≡ counts .layouts → length (tb .tops) ≡ counts .jobs → Told (judgedAtEnd (now (bytes .entry)) tb «after» (checkVerdict «check»)) tb r) ⌝ }
 {
     match check {
         JobCheck::Wrong(number, job) => TableRead::Refused(Refusal {
             number,
-            place: (lines.layouts + job.0 as usize + 1) as u16,
+            place: own_line::line_of_job(bytes, job),
         }),
-        JobCheck::Right => {
-            let stop = lines.stop;
-            match stop {
-                Stop::Refused(r) => TableRead::Refused(r),
-                Stop::Done => TableRead::Read(Counts {
-                    layouts: lines.layouts as u16,
-                    jobs: lines.jobs as u16,
-                }),
-            }
-        }
+        JobCheck::Right => match after {
+            After::Line(r) => TableRead::Refused(r),
+            After::Nothing => TableRead::Read(counts),
+        },
     }
 }
 
 // Reads the lines into clear buffers, with room for every job that the bytes can hold within the limit, and hands the settled layouts on with the
-// table, so that a caller who plans it need not settle them again.
+// table, so that a caller who plans it need not settle them again. What a refusal leaves in buffers and tree is open.
 pub fn read_lines(
     bytes: &[u8],
     parents: &mut [u16],
@@ -82,11 +62,16 @@ pub fn read_lines(
     ensures { λ r. ⌜ LinesOutcome (readTable (now (bytes .entry))) (now (parents .exit)) (now (tops .exit)) (now (bottoms .exit)) (now (marks .exit)) (now (tree .exit)) r ⌝ }
 {
     let lines = reading::read_unchecked(bytes, parents, tops, bottoms, marks);
-    let layouts = lines.layouts;
-    let jobs = lines.jobs;
-    settle_some(&parents[..layouts], tree);
-    let check = jobs::check_jobs(tree, layouts, &tops[..jobs], &bottoms[..jobs]);
-    answer(lines, check)
+    match lines {
+        Lines::Refused(r) => TableRead::Refused(r),
+        Lines::Ended(counts, after) => {
+            let layouts = counts.layouts as usize;
+            let jobs = counts.jobs as usize;
+            settle::settle_tree(&parents[..layouts], tree);
+            let check = jobs::check_jobs(tree, layouts, &tops[..jobs], &bottoms[..jobs]);
+            answer(bytes, counts, after, check)
+        }
+    }
 }
 
 // Whether the buffers are as long as asked for.

@@ -10,10 +10,10 @@
 //! It prints and judges no time, but stops if the three do not write the same.
 
 use std::time::{Duration, Instant};
+use tests::made::mixtures::{lines_mixed, Kind};
 use tests::made::tables::{table_of_shape, Reach, Shape, Size};
 use tests::made::Generator;
-use tests::reference::table::table_lines;
-use tests::reference::{JOB_LIMIT, LAYOUT_LIMIT, OUTPUT_BYTES};
+use tests::reference::{Table, JOB_LIMIT, LAYOUT_LIMIT, OUTPUT_BYTES};
 use tests::{by_hand, library, reference};
 
 const ROUNDS: usize = 50;
@@ -31,6 +31,15 @@ const SHAPES: [Shape; 5] = [
 
 const JOBS: [usize; 3] = [64, 512, JOB_LIMIT];
 
+/// Where the lines of layouts stand.
+#[derive(Clone, Copy)]
+enum Layouts {
+    First,
+    Last,
+    /// Each before four jobs, as long as there are jobs.
+    Between,
+}
+
 /// The whole run: input, output, and the length answered.
 type Runner = fn(&[u8], &mut [u8]) -> usize;
 
@@ -44,21 +53,22 @@ struct Times {
 fn main() {
     println!("times in µs; ratios: proved / by hand, quadratic / proved");
     println!(
-        "{:8} {:12} {:>8} {:>6} {:>9} {:>9} {:>11} {:>7} {:>7}",
+        "{:8} {:12} {:>15} {:>6} {:>9} {:>9} {:>11} {:>7} {:>7}",
         "tree", "paths", "layouts", "jobs", "proved", "by hand", "quadratic", "p / h", "q / p"
     );
     for jobs in [64, 512] {
-        rows(
-            Reach::Any,
-            Size {
-                layouts: jobs,
-                jobs,
-            },
-        );
+        let size = Size {
+            layouts: jobs,
+            jobs,
+        };
+        rows(Reach::Any, size, Layouts::First);
     }
-    let by_jobs = JOBS.map(|jobs| rows(Reach::Any, full_tree(jobs)));
+    let by_jobs = JOBS.map(|jobs| rows(Reach::Any, full_tree(jobs), Layouts::First));
     for reach in [Reach::Point, Reach::Whole] {
-        rows(reach, full_tree(JOB_LIMIT));
+        rows(reach, full_tree(JOB_LIMIT), Layouts::First);
+    }
+    for layouts in [Layouts::Last, Layouts::Between] {
+        rows(Reach::Any, full_tree(JOB_LIMIT), layouts);
     }
     for (at, shape) in SHAPES.into_iter().enumerate() {
         print_growth(shape, by_jobs.each_ref().map(|times| times[at].proved));
@@ -71,28 +81,43 @@ fn full_tree(jobs: usize) -> Size {
 }
 
 /// The rows of trees of each shape.
-fn rows(reach: Reach, size: Size) -> Vec<Times> {
+fn rows(reach: Reach, size: Size, layouts: Layouts) -> Vec<Times> {
     let shapes = SHAPES.into_iter();
-    shapes.map(|shape| row(shape, reach, size)).collect()
+    shapes
+        .map(|shape| {
+            let table = table_of_shape(shape, reach, size, &mut Generator::new(1));
+            let name = format!("{:8} {:12}", format!("{shape:?}"), path_name(reach));
+            row(&name, &table, layouts)
+        })
+        .collect()
 }
 
 /// Measures one table and prints its row.
-fn row(shape: Shape, reach: Reach, size: Size) -> Times {
-    let table = table_of_shape(shape, reach, size, &mut Generator::new(1));
-    let input = table_lines(&table).concat();
+fn row(name: &str, table: &Table, layouts: Layouts) -> Times {
+    let input = lines_mixed(table, &kinds(layouts)).concat();
     stop_unless_same(&input);
     let times = times(&input, &mut vec![0; OUTPUT_BYTES]);
-    print_row(shape, reach, size, &times);
+    print_row(name, table, layouts, &times);
     times
 }
 
-fn print_row(shape: Shape, reach: Reach, size: Size, times: &Times) {
+/// The kinds of the lines, as long as both are left.
+fn kinds(layouts: Layouts) -> Vec<Kind> {
+    match layouts {
+        Layouts::First => vec![Kind::Layout; LAYOUT_LIMIT],
+        Layouts::Last => vec![Kind::Job; JOB_LIMIT],
+        Layouts::Between => {
+            let [layout, job] = [Kind::Layout, Kind::Job];
+            [layout, job, job, job, job].repeat(LAYOUT_LIMIT)
+        }
+    }
+}
+
+fn print_row(name: &str, table: &Table, layouts: Layouts, times: &Times) {
     println!(
-        "{:8} {:12} {:>8} {:>6} {:>9.1} {:>9.1} {:>11.1} {:>7.2} {:>7.1}",
-        format!("{shape:?}"),
-        path_name(reach),
-        size.layouts,
-        size.jobs,
+        "{name} {:>15} {:>6} {:>9.1} {:>9.1} {:>11.1} {:>7.2} {:>7.1}",
+        format!("{} {}", table.layouts(), layouts_name(layouts)),
+        table.jobs(),
         microseconds(times.proved),
         microseconds(times.by_hand),
         microseconds(times.quadratic),
@@ -117,6 +142,14 @@ fn path_name(reach: Reach) -> &'static str {
         Reach::Short => "short",
         Reach::Whole => "top = 0",
         Reach::Point => "top = bottom",
+    }
+}
+
+fn layouts_name(layouts: Layouts) -> &'static str {
+    match layouts {
+        Layouts::First => "first",
+        Layouts::Last => "last",
+        Layouts::Between => "between",
     }
 }
 

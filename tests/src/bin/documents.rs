@@ -149,12 +149,14 @@ fn named_edits(words: &BTreeSet<&str>) -> BTreeSet<(String, String)> {
 }
 
 /// The lines of the examples that the man page shows.
-fn man_page_examples() -> [String; 5] {
+fn man_page_examples() -> [String; 7] {
     [
         "examples/bakehouse.table",
         "examples/bakehouse.plan",
         "examples/both-ends.table",
         "examples/both-ends.plan",
+        "examples/added-layout.table",
+        "examples/added-layout.plan",
         "examples/exchanged.plan",
     ]
     .map(|path| format!(".Bd -literal -offset indent\n{}.Ed\n", text(path)))

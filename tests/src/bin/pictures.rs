@@ -6,6 +6,7 @@ use std::fs;
 use std::path::PathBuf;
 use std::process::ExitCode;
 use tests::examples::{marked, named, telling, Example};
+use tests::made::mixtures::any_lines;
 use tests::made::tables::{table, table_of_size, Size};
 use tests::made::Generator;
 use tests::picture::answer::{planned, planned_wrongly, product_answer, Answer};
@@ -106,7 +107,8 @@ const fn stored(file: &'static str, table: &'static str, shown: Shown) -> Stored
     Stored { file, table, shown }
 }
 
-const STORED: [Stored; 12] = [
+const STORED: [Stored; 13] = [
+    stored("examples/added-layout", "added-layout", Shown::Product),
     stored("examples/bakehouse", "bakehouse", Shown::Product),
     stored("examples/bakehouse-cut-3", "bakehouse", Shown::Cut(3)),
     stored("examples/bare-sheet", "bare-sheet", Shown::Product),
@@ -238,7 +240,7 @@ fn check_made(table: &Table, generator: &mut Generator) -> Outcome {
     let cut = generator.between(0, table.jobs());
     let cut = generator.choice(&[None, Some(cut)]);
     let drawn_whole = table.jobs() <= JOBS_DRAWN && table.layouts() <= LAYOUTS_DRAWN;
-    let bytes = table_lines(table).concat();
+    let bytes = any_lines(table, generator).concat();
     same("legible", draw(&bytes, "made", cut)?.legible, drawn_whole)?;
     check(&bytes, "made", cut)
 }
@@ -294,7 +296,8 @@ fn with_any_line(generator: &mut Generator) -> Vec<u8> {
         layouts: generator.between(1, 4),
         jobs: generator.between(0, 4),
     };
-    let mut lines = table_lines(&table_of_size(size, generator));
+    let table = table_of_size(size, generator);
+    let mut lines = any_lines(&table, generator);
     let at = generator.between(0, lines.len());
     lines.insert(at, any_bytes(generator));
     lines.concat()

@@ -1,16 +1,21 @@
 //! *Read a table* of the proved library beside the reference (document 01, "The table" and "What
-//! each operation turns away"): the answer, every cell of every buffer, and the cells beyond.
+//! each operation turns away"; 2026-04, layouts after jobs): the answer, every cell of every buffer,
+//! and the cells beyond.
 
 use std::process::ExitCode;
 use tests::examples::{marked, BAKEHOUSE_BYTES, READINGS};
 use tests::lent::Lent;
 use tests::library;
-use tests::made::damage::{damaged, damaged_often, nearly_right_lines, DAMAGES, VERY_LONG};
+use tests::made::damage::{
+    damaged, damaged_often, nearly_right_lines, nearly_right_table, DAMAGES, VERY_LONG,
+};
+use tests::made::faults::{bases, cases, Case};
+use tests::made::mixtures::{any_lines, lines_mixed, mixtures};
 use tests::made::tables::{any_parents, table, table_of_size, Size};
 use tests::made::Generator;
-use tests::reference::table::{read_into, table_lines, Buffers, Counts};
-use tests::reference::{Refusal, Table, ABSENT, JOB_LIMIT, LAYOUT_LIMIT};
-use tests::report::{AnswerCounts, Outcome, Report};
+use tests::reference::table::{read, read_into, table_lines, Buffers, Counts};
+use tests::reference::{Refusal, Table, JOB_LIMIT, LAYOUT_LIMIT};
+use tests::report::{same, AnswerCounts, Outcome, Report};
 
 /// The lengths of the buffers lent.
 #[derive(Clone, Copy)]
@@ -36,31 +41,40 @@ fn main() -> ExitCode {
         agrees(&bytes, EXACT, &mut Generator::new(0))
     });
     report.listed("document 01's refusals", READINGS, as_said);
-    report.listed("document 01's limits", limits(), at_limit);
+    report.listed("limits", limits(), as_said_of_runs);
+    for base in bases() {
+        let group = format!("faults side by side: {}", base.name);
+        report.listed(&group, cases(&base), |case| first_fault_wins(&case));
+    }
+    report.made("every mixture of small tables", 200, every_mixture);
+    report.made("every mixture of nearly right tables", 200, |generator| {
+        in_every_mixture(&nearly_right_table(generator), generator)
+    });
     report.made("whole tables", 20_000, |generator| {
-        let bytes = table_lines(&table(generator)).concat();
+        let bytes = any_lines(&table(generator), generator).concat();
         counted(&mut answers, &bytes, room(generator), generator)
     });
     report.made("tables at the limits", 200, |generator| {
-        let bytes = table_lines(&table_of_size(limit_size(generator), generator)).concat();
+        let table = table_of_size(limit_size(generator), generator);
+        let bytes = any_lines(&table, generator).concat();
         counted(&mut answers, &bytes, room(generator), generator)
     });
-    report.made("one damage", 50_000, |generator| {
+    report.made("one damage", 90_000, |generator| {
         let damage = generator.choice(&DAMAGES);
         let bytes = damaged(damage, &table(generator), generator);
         counted(&mut answers, &bytes, room(generator), generator)
     });
-    report.made("several damages", 20_000, |generator| {
+    report.made("several damages", 40_000, |generator| {
         let bytes = damaged_often(&table(generator), generator);
         counted(&mut answers, &bytes, room(generator), generator)
     });
-    report.made("lines out of order", 60_000, |generator| {
+    report.made("lines out of order", 90_000, |generator| {
         let bytes = nearly_right_lines(generator);
         counted(&mut answers, &bytes, room(generator), generator)
     });
     report.made("every place of damage", 40, every_place);
     report.made("buffers of any length", 5_000, |generator| {
-        let bytes = table_lines(&table(generator)).concat();
+        let bytes = any_lines(&table(generator), generator).concat();
         counted(&mut answers, &bytes, any_room(generator), generator)
     });
     report.made("long inputs", 60, |generator| {
@@ -119,49 +133,119 @@ fn counted(
     Ok(())
 }
 
-/// What document 01 says of short inputs.
+/// What documents 01 and 02 say of short inputs.
 fn as_said((bytes, refusal): (&[u8], Option<Refusal>)) -> Outcome {
     let answer = check(bytes, EXACT, &mut Generator::new(0))?;
-    if answer.err() == refusal {
-        return Ok(());
-    }
     let text = String::from_utf8_lossy(bytes);
-    Err(format!("{text:?} is {answer:?}, not {refusal:?}"))
+    same(&format!("{text:?}"), answer.err(), refusal)
 }
 
-/// A table of equal layouts and jobs at or over a limit, with the line of its refusal 3, or none.
-fn limits() -> Vec<(usize, usize, Option<usize>)> {
+/// So many times the same line.
+type Run = (&'static str, usize);
+
+const FIRST_LAYOUT: &str = "01FFFF\n";
+const LAYOUT: &str = "010000\n";
+const JOB: &str = "0200000000\n";
+const NO_LAYOUT: &str = "020000FFFE\n";
+const UPWARD: &str = "0200010000\n";
+const FULL_END: &str = "0304001000\n";
+
+/// Tables at and over the limits, with the refusal and its line.
+fn limits() -> Vec<(Vec<Run>, Option<(u16, u16)>)> {
+    let layouts = |count: usize| [(FIRST_LAYOUT, 1), (LAYOUT, count - 1)];
+    let first = |count: usize, then: &[Run]| [&layouts(count)[..], then].concat();
+    let behind = |runs: &[Run], count: usize, then: &[Run]| [runs, &layouts(count), then].concat();
     vec![
-        (LAYOUT_LIMIT, 0, None),
-        (LAYOUT_LIMIT + 1, 0, Some(1025)),
-        (1, JOB_LIMIT, None),
-        (1, JOB_LIMIT + 1, Some(4098)),
-        (LAYOUT_LIMIT, JOB_LIMIT, None),
-        (LAYOUT_LIMIT, JOB_LIMIT + 1, Some(1024 + 4097)),
-        (LAYOUT_LIMIT + 1, JOB_LIMIT + 1, Some(1025)),
-        (2 * LAYOUT_LIMIT, 3 * JOB_LIMIT, Some(1025)),
-        (2, 65_536 + 2, Some(4099)),
+        // Layouts first.
+        (first(1024, &[("0304000000\n", 1)]), None),
+        (first(1025, &[]), Some((3, 1025))),
+        (first(1, &[(JOB, 4096), ("0300011000\n", 1)]), None),
+        (first(1, &[(JOB, 4097)]), Some((3, 4098))),
+        (first(1024, &[(JOB, 4096), (FULL_END, 1)]), None),
+        (first(1024, &[(JOB, 4097)]), Some((3, 5121))),
+        (first(2048, &[(JOB, 12_288)]), Some((3, 1025))),
+        (first(2, &[(JOB, 65_538)]), Some((3, 4099))),
+        // Jobs first.
+        (vec![(JOB, 4097)], Some((3, 4097))),
+        (vec![(JOB, 65_538)], Some((3, 4097))),
+        (behind(&[(JOB, 4096)], 1024, &[(FULL_END, 1)]), None),
+        (behind(&[(JOB, 4096)], 1025, &[]), Some((3, 5121))),
+        (behind(&[(JOB, 4096)], 1024, &[(JOB, 1)]), Some((3, 5121))),
+        (
+            behind(&[(JOB, 4095)], 1024, &[(JOB, 1), (FULL_END, 1)]),
+            None,
+        ),
+        // Jobs between layouts, and layouts between jobs.
+        (first(1, &[(JOB, 4096), (LAYOUT, 1024)]), Some((3, 5121))),
+        (first(512, &[(JOB, 4096), (LAYOUT, 513)]), Some((3, 5121))),
+        (
+            first(512, &[(JOB, 4096), (LAYOUT, 512), (FULL_END, 1)]),
+            None,
+        ),
+        (
+            behind(&[(JOB, 2048)], 1024, &[(JOB, 2049)]),
+            Some((3, 5121)),
+        ),
+        (
+            behind(&[(JOB, 2048)], 1024, &[(JOB, 2048), (FULL_END, 1)]),
+            None,
+        ),
+        // A wrong job before the line beyond the limit, and where there is none.
+        (vec![(NO_LAYOUT, 1), (JOB, 4096)], Some((3, 4097))),
+        (
+            behind(&[(UPWARD, 1), (JOB, 4095)], 1025, &[]),
+            Some((3, 5121)),
+        ),
+        (
+            behind(&[(JOB, 4095), (NO_LAYOUT, 1)], 1024, &[(FULL_END, 1)]),
+            Some((5, 4096)),
+        ),
+        (
+            first(1024, &[(JOB, 4095), (UPWARD, 1), (FULL_END, 1)]),
+            Some((6, 5120)),
+        ),
+        (
+            behind(&[(JOB, 1)], 1024, &[(UPWARD, 4095), (FULL_END, 1)]),
+            Some((6, 1026)),
+        ),
     ]
 }
 
-fn at_limit((layouts, jobs, line): (usize, usize, Option<usize>)) -> Outcome {
-    let mut numbers = Table {
-        parents: vec![0; layouts],
-        tops: vec![0; jobs],
-        bottoms: vec![0; jobs],
-        marks: vec![0; jobs],
-    };
-    numbers.parents[0] = ABSENT;
-    let bytes = table_lines(&numbers).concat();
+fn as_said_of_runs((runs, refusal): (Vec<Run>, Option<(u16, u16)>)) -> Outcome {
+    let text: String = runs
+        .iter()
+        .map(|(line, times)| line.repeat(*times))
+        .collect();
+    let refusal = refusal.map(|(number, place)| Refusal { number, place });
+    let answer = check(text.as_bytes(), EXACT, &mut Generator::new(0))?;
+    same(&format!("{runs:?}"), answer.err(), refusal)
+}
+
+/// Of several faults the one that comes up first is told.
+fn first_fault_wins(case: &Case) -> Outcome {
+    let (bytes, refusal) = case.written();
     let answer = check(&bytes, EXACT, &mut Generator::new(0))?;
-    let expected = line.map(|line| Refusal {
-        number: 3,
-        place: line as u16,
-    });
-    if answer.err() == expected {
-        return Ok(());
+    same("the refusal", answer.err(), refusal)
+}
+
+/// However its lines are mixed, the same table is read.
+fn every_mixture(generator: &mut Generator) -> Outcome {
+    let size = Size {
+        layouts: generator.between(1, 4),
+        jobs: generator.between(0, 4),
+    };
+    let table = table_of_size(size, generator);
+    for kinds in mixtures(table.layouts(), table.jobs()) {
+        let bytes = lines_mixed(&table, &kinds).concat();
+        same("the table read", read(&bytes).as_ref(), Ok(&table))?;
     }
-    Err(format!("{layouts} layouts and {jobs} jobs give {answer:?}"))
+    in_every_mixture(&table, generator)
+}
+
+fn in_every_mixture(table: &Table, generator: &mut Generator) -> Outcome {
+    mixtures(table.layouts(), table.jobs())
+        .iter()
+        .try_for_each(|kinds| agrees(&lines_mixed(table, kinds).concat(), EXACT, generator))
 }
 
 /// Buffers as asked for, or longer.

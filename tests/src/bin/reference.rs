@@ -12,6 +12,7 @@ use tests::examples::{
     bakehouse, marked, named, telling, Begins, Said, Stretch, BAKEHOUSE_BYTES, BAKEHOUSE_LOOKUPS,
     BAKEHOUSE_ORDER, BAKEHOUSE_PLAN, PRINTINGS, READINGS, STRETCHES,
 };
+use tests::made::mixtures::any_lines;
 use tests::made::tables::{table, table_of_size, Size};
 use tests::made::Generator;
 use tests::plan_checks::{check_example, small_tables, Planner};
@@ -80,7 +81,8 @@ fn main() -> ExitCode {
     });
     report.made("read after writing", 3_000, |generator| {
         let table = table(generator);
-        same("table", read(&table_lines(&table).concat()), Ok(table))
+        let bytes = any_lines(&table, generator).concat();
+        same("table", read(&bytes), Ok(table))
     });
     report.listed("wrong planners", wrong_planners(), |planner| {
         caught(&planner)
@@ -131,7 +133,8 @@ fn bakehouse_as_printed() -> Outcome {
 }
 
 /// The tables in `examples`, with their plans beside them.
-const EXAMPLE_FILES: [&str; 9] = [
+const EXAMPLE_FILES: [&str; 10] = [
+    "added-layout",
     "bakehouse",
     "bare-sheet",
     "both-ends",

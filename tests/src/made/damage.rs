@@ -1,9 +1,10 @@
 //! Damage to the bytes of a table. What the damaged bytes then mean is for the reference to say: a
 //! damage may even leave a whole table.
 
+use super::mixtures::any_lines;
 use super::tables;
 use super::Generator;
-use crate::reference::table::{frame_line, table_lines, Frame};
+use crate::reference::table::{frame_line, Frame};
 use crate::reference::{Table, ABSENT, JOB_LIMIT, LAYOUT_LIMIT};
 
 #[derive(Clone, Copy, Debug, PartialEq, Eq)]
@@ -25,7 +26,7 @@ pub enum Damage {
     WrongJobCount,
     LineAfterEnd,
     BytesAfterEnd,
-    LayoutAfterJobs,
+    ExtraLayout,
     WrongParent,
     TopNoLayout,
     BottomNoLayout,
@@ -60,7 +61,7 @@ pub const DAMAGES: [Damage; 32] = [
     Damage::WrongJobCount,
     Damage::LineAfterEnd,
     Damage::BytesAfterEnd,
-    Damage::LayoutAfterJobs,
+    Damage::ExtraLayout,
     Damage::WrongParent,
     Damage::TopNoLayout,
     Damage::BottomNoLayout,
@@ -86,7 +87,7 @@ const DIGITS: &[u8] = b"0123456789ABCDEF";
 pub fn damaged(damage: Damage, table: &Table, generator: &mut Generator) -> Vec<u8> {
     let mut numbers = table.clone();
     damage_numbers(damage, &mut numbers, generator);
-    let mut lines = table_lines(&numbers);
+    let mut lines = any_lines(&numbers, generator);
     damage_lines(damage, &mut lines, &numbers, generator);
     let mut bytes = lines.concat();
     damage_bytes(damage, &mut bytes, generator);
@@ -101,7 +102,7 @@ pub fn damaged_often(table: &Table, generator: &mut Generator) -> Vec<u8> {
     for &damage in &damages {
         damage_numbers(damage, &mut numbers, generator);
     }
-    let mut lines = table_lines(&numbers);
+    let mut lines = any_lines(&numbers, generator);
     for &damage in &damages {
         damage_lines(damage, &mut lines, &numbers, generator);
     }
@@ -112,7 +113,7 @@ pub fn damaged_often(table: &Table, generator: &mut Generator) -> Vec<u8> {
     bytes
 }
 
-/// Damages that leave well-formed lines in their order.
+/// Damages that leave well-formed lines, each where it stood.
 fn damage_numbers(damage: Damage, table: &mut Table, generator: &mut Generator) {
     let layouts = table.layouts();
     let jobs = table.jobs();
@@ -171,10 +172,9 @@ fn damage_lines(
             lines[end] = end_line(table.layouts() as u16, near(table.jobs(), generator));
         }
         Damage::LineAfterEnd => lines.push(any_line(table.layouts(), generator)),
-        Damage::LayoutAfterJobs => {
+        Damage::ExtraLayout => {
             let parent = any_number(table.layouts(), generator);
-            let after = generator.between(table.layouts().min(end), end);
-            lines.insert(after, frame_line(Frame::Layout(parent)));
+            lines.insert(at, frame_line(Frame::Layout(parent)));
         }
         Damage::UnknownKind => {
             if let Some(digit) = lines[at].get_mut(generator.below(2)) {
@@ -302,10 +302,11 @@ pub fn any_line(layouts: usize, generator: &mut Generator) -> Vec<u8> {
     }
 }
 
-/// Lines that are nearly a small table: numbers right and wrong, and now and then a line out of its
-/// place.
+/// Lines that are nearly a small table: layouts and jobs in any mixture, numbers right and wrong, and
+/// now and then a line out of its place.
 pub fn nearly_right_lines(generator: &mut Generator) -> Vec<u8> {
-    let mut lines = table_lines(&nearly_right_table(generator));
+    let table = nearly_right_table(generator);
+    let mut lines = any_lines(&table, generator);
     for _ in 0..generator.below(3) {
         let (one, other) = (generator.below(lines.len()), generator.below(lines.len()));
         lines.swap(one, other);
@@ -318,7 +319,7 @@ pub fn nearly_right_lines(generator: &mut Generator) -> Vec<u8> {
 }
 
 /// A small table whose parents may be wrong, and whose tops and bottoms are any numbers.
-fn nearly_right_table(generator: &mut Generator) -> Table {
+pub fn nearly_right_table(generator: &mut Generator) -> Table {
     let layouts = generator.between(1, 5);
     let mut table = Table {
         parents: tables::any_parents(layouts, generator),

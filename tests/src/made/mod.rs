@@ -1,6 +1,8 @@
 //! Tables made from seeds, whole and damaged: the same seed always makes the same case.
 
 pub mod damage;
+pub mod faults;
+pub mod mixtures;
 pub mod tables;
 
 /// A deterministic source of bits (splitmix64).

@@ -15,7 +15,7 @@ const BYTES: usize = 48;
 pub fn words(refusal: Refusal) -> &'static str {
     match refusal.number {
         1 => "the line is no frame",
-        2 => "the line stands in the wrong part",
+        2 => "a line after the end, or an end without a layout",
         3 => "too many layouts or jobs",
         4 => "a wrong parent",
         5 => "a top or bottom that is no layout",

@@ -1,5 +1,5 @@
-//! *Read a table* line by line (document 01, "The table" and "What each operation turns away"), and
-//! tables written as lines.
+//! *Read a table* line by line (document 01, "The table" and "What each operation turns away"; 2026-04:
+//! layouts and jobs in any mixture, and the jobs judged at the end), and tables written as lines.
 
 use super::tree::{is_ancestor, right_parent};
 use super::{refuse, Refusal, Table, ABSENT, JOB_LIMIT, LAYOUT_LIMIT};
@@ -55,9 +55,11 @@ fn hold<T: Copy>(cells: &mut [T], used: &[T], unused: T) {
     cells[..used.len()].copy_from_slice(used);
 }
 
-/// Reads a table from its bytes: the first faulty line wins.
+/// Reads a table from its bytes: what comes up first wins. The jobs are judged when the end line is
+/// read.
 pub fn read(bytes: &[u8]) -> Result<Table, Refusal> {
     let mut table = Table::default();
+    let mut lines_of_jobs = Vec::new();
     let mut ended = false;
     let mut line = 0;
     for text in bytes.split_inclusive(|&byte| byte == 0x0A) {
@@ -65,14 +67,20 @@ pub fn read(bytes: &[u8]) -> Result<Table, Refusal> {
         let Some(frame) = frame(text) else {
             return refuse(1, line);
         };
-        let number = fault(&table, ended, frame);
+        let number = if ended { 2 } else { fault(&table, frame) };
         if number != 0 {
             return refuse(number, line);
         }
         match frame {
             Frame::Layout(parent) => table.parents.push(parent),
-            Frame::Job { top, bottom, mark } => table.add_job(top, bottom, mark),
-            Frame::End { .. } => ended = true,
+            Frame::Job { top, bottom, mark } => {
+                table.add_job(top, bottom, mark);
+                lines_of_jobs.push(line);
+            }
+            Frame::End { .. } => {
+                judge_jobs(&table, &lines_of_jobs)?;
+                ended = true;
+            }
         }
     }
     if ended {
@@ -113,53 +121,35 @@ fn number(digits: &[u8]) -> Option<u16> {
     u16::from_str_radix(std::str::from_utf8(digits).ok()?, 16).ok()
 }
 
-/// The number of a well-formed line's refusal after what stands before it, 2 to 7 in this order; 0
-/// for none.
-fn fault(table: &Table, ended: bool, frame: Frame) -> u16 {
-    let out_of_place = match frame {
-        Frame::Layout(_) => table.jobs() > 0,
-        Frame::Job { .. } | Frame::End { .. } => table.layouts() == 0,
-    };
-    if ended || out_of_place {
-        return 2;
-    }
+/// The number of a line's own refusal before the end, given what stands before it; 0 for none.
+fn fault(table: &Table, frame: Frame) -> u16 {
     match frame {
-        Frame::Layout(parent) => layout_fault(table, parent),
-        Frame::Job { top, bottom, .. } => job_fault(table, top, bottom),
-        Frame::End { layouts, jobs } => end_fault(table, layouts, jobs),
+        Frame::Layout(_) if table.layouts() == LAYOUT_LIMIT => 3,
+        Frame::Layout(parent) if !right_parent(table.layouts(), parent) => 4,
+        Frame::Job { .. } if table.jobs() == JOB_LIMIT => 3,
+        Frame::End { .. } if table.layouts() == 0 => 2,
+        Frame::End { layouts, jobs } if !counts_are(table, layouts, jobs) => 7,
+        _ => 0,
     }
 }
 
-fn layout_fault(table: &Table, parent: u16) -> u16 {
-    if table.layouts() == LAYOUT_LIMIT {
-        3
-    } else if !right_parent(table.layouts(), parent) {
-        4
-    } else {
-        0
-    }
+fn counts_are(table: &Table, layouts: u16, jobs: u16) -> bool {
+    usize::from(layouts) == table.layouts() && usize::from(jobs) == table.jobs()
 }
 
-fn job_fault(table: &Table, top: u16, bottom: u16) -> u16 {
+/// 5 or 6 for the first wrong job, on its own line.
+fn judge_jobs(table: &Table, lines: &[usize]) -> Result<(), Refusal> {
     let is_layout = |number: u16| usize::from(number) < table.layouts();
-    if table.jobs() == JOB_LIMIT {
-        3
-    } else if !is_layout(top) || !is_layout(bottom) {
-        5
-    } else if !is_ancestor(&table.parents, top, bottom) {
-        6
-    } else {
-        0
+    for (job, &line) in lines.iter().enumerate() {
+        let (top, bottom) = (table.tops[job], table.bottoms[job]);
+        if !is_layout(top) || !is_layout(bottom) {
+            return refuse(5, line);
+        }
+        if !is_ancestor(&table.parents, top, bottom) {
+            return refuse(6, line);
+        }
     }
-}
-
-fn end_fault(table: &Table, layouts: u16, jobs: u16) -> u16 {
-    let right = usize::from(layouts) == table.layouts() && usize::from(jobs) == table.jobs();
-    if right {
-        0
-    } else {
-        7
-    }
+    Ok(())
 }
 
 /// A frame as its line.
@@ -175,13 +165,26 @@ pub fn frame_line(frame: Frame) -> Vec<u8> {
     text.into_bytes()
 }
 
-/// A table as its lines, the end among them.
+/// A table as its lines: the layouts, the jobs, the end.
 pub fn table_lines(table: &Table) -> Vec<Vec<u8>> {
+    let parts = [layout_lines(table), job_lines(table), vec![end_line(table)]];
+    parts.concat()
+}
+
+pub fn layout_lines(table: &Table) -> Vec<Vec<u8>> {
     let layouts = table.parents.iter().map(|&parent| Frame::Layout(parent));
+    layouts.map(frame_line).collect()
+}
+
+pub fn job_lines(table: &Table) -> Vec<Vec<u8>> {
     let jobs = (0..table.jobs()).map(|at| job(table.tops[at], table.bottoms[at], table.marks[at]));
-    let end = Frame::End {
+    jobs.map(frame_line).collect()
+}
+
+/// The end line that counts the table's layouts and jobs.
+pub fn end_line(table: &Table) -> Vec<u8> {
+    frame_line(Frame::End {
         layouts: table.layouts() as u16,
         jobs: table.jobs() as u16,
-    };
-    layouts.chain(jobs).chain([end]).map(frame_line).collect()
+    })
 }

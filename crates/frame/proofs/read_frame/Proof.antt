@@ -1,18 +1,13 @@
 -- `frame::read_frame` meets its contract: a frame's line ends after 6 or 10 bytes.
-use Prim.Native.Nat.{ℕ, _-_}
-use mathlib.Core.Path.{_≡_, refl, sym, _∙_}
-use mathlib.Core.List.{List, []}
-use native.Mathlib.Nat.{le-of-lt, le-refl}
-use lib.ListN.{length, take, drop, length-drop, drop-of-length-le}
-use lib.Seq.{take-all}
+use mathlib.Core.Path.{refl, sym, _∙_}
+use mathlib.Core.List.{[]}
+use native.Mathlib.Nat.{le-of-lt}
+use lib.ListN.{drop, drop-of-length-le}
 use borrow.Author.Needs.{needs}
+use Rattle.frame.specs.Lines.{rest}
 use Rattle.frame.proofs.Frames.{no-ends}
 use Rattle.frame.proofs.read_frame.Statement.{statement}
 use Rattle.frame.proofs.read_frame.Tie as tie
-
--- a part to the end is what is left
-rest : (s : List ℕ) (at : ℕ) → take (length s - at) (drop at s) ≡ drop at s
-rest s at = take-all (length s - at) (drop at s) (rw length-drop (le-refl (length s - at)))
 
 no-frame-requires : tie.Need-no-frame-requires
 no-frame-requires c κs = search needs

@@ -2,7 +2,8 @@
 use Prim.Native.Nat.{_+_}
 use Rattle.model.specs.Answers.{frameCase}
 use Rattle.frame.specs.Lines.{frame-answered, refusal-answered}
-use Rattle.reading.specs.Steps.{frameAt, endedAt}
+use Rattle.own_line.specs.OwnLine.{frameAt}
+use Rattle.reading.specs.Steps.{endedAt}
 use Rattle.reading.specs.Lines.{no-frame-read, step-by-frame}
 use borrow.Author.Needs.{needs}
 use Rattle.reading.proofs.next_step.Statement.{statement}
@@ -25,22 +26,22 @@ judge-requires c κs = search needs
 
 returns : tie.Need-returns
 returns c =
-    λ tb n m.
+    λ tb own n m.
     let a = c .before .before .before .before .before .before .args in
     let p = a .p in
     let line = p .layouts + p .jobs + p .ends + 1 in
     let none = refusal-answered _ _ line (frameAt (a .bytes .now) (p .at)) (rw (c .before .before .before .before .line-number .ensures) at (c .before .before .before .read-frame .ensures)) (c .before .answer .given .1) in
-    rw (none .number-one, none .own-line) (no-frame-read (a .bytes .now) (p .at) line tb (endedAt (p .ends)) (c .before .before .before .before .before .before .pre .1 .1) (none .none-there))
+    rw (none .number-one, none .own-line) (no-frame-read (a .bytes .now) (p .at) line tb own (endedAt (p .ends)) (c .before .before .before .before .before .before .pre .1 .1) (none .none-there))
 
 returns-2 : tie.Need-returns-2
 returns-2 c =
-    λ tb n m.
+    λ tb own n m.
     let a = c .before .before .before .before .before .before .before .args in
     let p = a .p in
     let line = p .layouts + p .jobs + p .ends + 1 in
     let f = c .before .before .answer2 .given .0 .0 in
     let e = frame-answered _ f line (frameAt (a .bytes .now) (p .at)) (rw (c .before .before .before .before .before .line-number .ensures) at (c .before .before .before .before .read-frame .ensures)) (c .before .before .answer2 .given .1) in
-    step-by-frame (a .bytes .now) (p .at) line tb (endedAt (p .ends)) (frameCase f) (c .judge .result) e (c .judge .ensures tb n m)
+    step-by-frame (a .bytes .now) (p .at) line tb own (endedAt (p .ends)) (frameCase f) e (c .judge .result) (c .judge .ensures tb own n m)
 
 pub next-step-spec : {M : Type 1} → statement M
 next-step-spec =

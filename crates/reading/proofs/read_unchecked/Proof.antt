@@ -5,8 +5,10 @@ use mathlib.Core.List.{List}
 use lib.ListN.{length, length-set}
 use lib.Seq.{length-take-le}
 use Rattle.frame.specs.Fields.{DigitValues}
-use Rattle.reading.specs.Steps.{StepOutcome, LayoutLine, JobLine, EndLine, Roomy, BuffersReady, held, endedAt, SoFar}
+use Rattle.reading.specs.Steps.{StepOutcome, Roomy, BuffersReady, held, endedAt, SoFar}
 use Rattle.reading.specs.Held.{so-far-none, layout-room, so-far-layout, top-room, bottom-room, mark-room, so-far-job, so-far-end, read-stopped, read-last}
+use Rattle.reading.specs.declared.Step.{Step}
+use Rattle.reading.specs.declared.Step.the-variants as step
 use borrow.Author.Needs.{needs}
 use native.Mathlib.Omega.{arith}
 use Rattle.reading.proofs.read_unchecked.Statement.{statement}
@@ -39,37 +41,26 @@ Inv-loop bytes parents₀ tops₀ bottoms₀ marks₀ digits at₀ layouts₀ jo
 abbrev μ-loop : tie.MeasureT-loop
 μ-loop bytes parents₀ tops₀ bottoms₀ marks₀ digits at₀ layouts₀ jobs₀ ends₀ parents tops bottoms marks at layouts jobs ends = length bytes - at
 
--- the step at hand, for the table in the cells
-step-at : (c : tie.After-next-step Inv-loop μ-loop)
-    → let l = c .before .before .before .loop in
-    StepOutcome (c .before .before .before .before .before .before .before .before .before .before .args .bytes .now) (l .at) (l .layouts + l .jobs + l .ends + 1) (held (l .parents) (l .tops) (l .bottoms) (l .marks) (l .layouts) (l .jobs)) (endedAt (l .ends)) (c .next-step .result)
+-- what a step promises of the table in the cells
+abbrev Outcome : {bytes parents tops bottoms marks : List ℕ} {at n m ends : ℕ} → SoFar bytes parents tops bottoms marks at n m ends → Step → Type 0
+Outcome {bytes} {parents} {tops} {bottoms} {marks} {at} {n} {m} {ends} s = StepOutcome bytes at (n + m + ends + 1) (held parents tops bottoms marks n m) (s .own) (endedAt ends)
+
+-- the step at hand
+step-at : (c : tie.After-next-step Inv-loop μ-loop) → Outcome (c .before .before .before .loop .inv .so-far) (c .next-step .result)
 step-at c =
     let l = c .before .before .before .loop in
     let s = l .inv .so-far in
-    c .next-step .ensures (held (l .parents) (l .tops) (l .bottoms) (l .marks) (l .layouts) (l .jobs)) (length-take-le (l .layouts) (l .parents) (s .holds .parents-hold)) (length-take-le (l .jobs) (l .tops) (s .holds .tops-hold))
+    c .next-step .ensures (held (l .parents) (l .tops) (l .bottoms) (l .marks) (l .layouts) (l .jobs)) (s .own) (length-take-le (l .layouts) (l .parents) (s .holds .parents-hold)) (length-take-le (l .jobs) (l .tops) (s .holds .tops-hold))
 
 -- it is a layout, a job, the end or a refusal
-layout : (c : tie.After-known-told Inv-loop μ-loop)
-    → let l = c .before .before .before .before .before .before .loop in
-    LayoutLine (c .before .before .before .before .before .before .before .before .before .before .before .before .before .args .bytes .now) (l .at) (l .layouts + l .jobs + l .ends + 1) (held (l .parents) (l .tops) (l .bottoms) (l .marks) (l .layouts) (l .jobs)) (endedAt (l .ends)) (c .before .step .given .0 .0 .0)
-layout c =
-    let l = c .before .before .before .before .before .before .loop in
-    subst (StepOutcome (c .before .before .before .before .before .before .before .before .before .before .before .before .before .args .bytes .now) (l .at) (l .layouts + l .jobs + l .ends + 1) (held (l .parents) (l .tops) (l .bottoms) (l .marks) (l .layouts) (l .jobs)) (endedAt (l .ends))) (c .before .step .given .1) (step-at (c .before .before .before))
+layout : (c : tie.After-known-told Inv-loop μ-loop) → Outcome (c .before .before .before .before .before .before .loop .inv .so-far) (step.Layout (c .before .step .given .0 .0))
+layout c = subst (Outcome (c .before .before .before .before .before .before .loop .inv .so-far)) (c .before .step .given .1) (step-at (c .before .before .before))
 
-job : (c : tie.After-known-told2 Inv-loop μ-loop)
-    → let l = c .before .before .before .before .before .before .loop in
-    let g = c .before .step2 .given .0 in
-    JobLine (c .before .before .before .before .before .before .before .before .before .before .before .before .before .args .bytes .now) (l .at) (l .layouts + l .jobs + l .ends + 1) (held (l .parents) (l .tops) (l .bottoms) (l .marks) (l .layouts) (l .jobs)) (endedAt (l .ends)) (g .0 .0) (g .1 .0 .0) (g .1 .1 .0)
-job c =
-    let l = c .before .before .before .before .before .before .loop in
-    subst (StepOutcome (c .before .before .before .before .before .before .before .before .before .before .before .before .before .args .bytes .now) (l .at) (l .layouts + l .jobs + l .ends + 1) (held (l .parents) (l .tops) (l .bottoms) (l .marks) (l .layouts) (l .jobs)) (endedAt (l .ends))) (c .before .step2 .given .1) (step-at (c .before .before .before))
+job : (c : tie.After-known-told2 Inv-loop μ-loop) → let g = c .before .step2 .given .0 in Outcome (c .before .before .before .before .before .before .loop .inv .so-far) (step.Job (g .0) (g .1 .0) (g .1 .1 .0))
+job c = subst (Outcome (c .before .before .before .before .before .before .loop .inv .so-far)) (c .before .step2 .given .1) (step-at (c .before .before .before))
 
-end : (c : tie.After-enum-told Inv-loop μ-loop)
-    → let l = c .before .before .before .before .before .loop in
-    EndLine (c .before .before .before .before .before .before .before .before .before .before .before .before .args .bytes .now) (l .at) (l .layouts + l .jobs + l .ends + 1) (held (l .parents) (l .tops) (l .bottoms) (l .marks) (l .layouts) (l .jobs)) (endedAt (l .ends))
-end c =
-    let l = c .before .before .before .before .before .loop in
-    subst (StepOutcome (c .before .before .before .before .before .before .before .before .before .before .before .before .args .bytes .now) (l .at) (l .layouts + l .jobs + l .ends + 1) (held (l .parents) (l .tops) (l .bottoms) (l .marks) (l .layouts) (l .jobs)) (endedAt (l .ends))) (c .enum-told .given .1) (step-at (c .before .before))
+end : (c : tie.After-enum-told Inv-loop μ-loop) → Outcome (c .before .before .before .before .before .loop .inv .so-far) step.End
+end c = subst (Outcome (c .before .before .before .before .before .loop .inv .so-far)) (c .enum-told .given .1) (step-at (c .before .before))
 
 digit-values-requires : tie.Need-digit-values-requires Inv-loop μ-loop
 digit-values-requires c κs = search needs
@@ -88,10 +79,8 @@ mul-parents c = search needs
 
 slice-write-parents : tie.Need-slice-write-parents Inv-loop μ-loop
 slice-write-parents c =
-    let l = c .before .before .before .before .before .before .loop in
-    let b = c .before .before .before .before .before .before .before .before .before .before .before .before .before .args .bytes .now in
-    let i = l .inv in
-    layout-room b (l .parents) (l .tops) (l .bottoms) (l .marks) (l .at) (l .layouts) (l .jobs) (l .ends) (i .so-far) _ (layout c) (omega (arith, i .ready .room .parents-room, i .parents-same))
+    let i = c .before .before .before .before .before .before .loop .inv in
+    layout-room _ _ _ _ _ _ _ _ _ (i .so-far) _ (layout c) (omega (arith, i .ready .room .parents-room, i .parents-same))
 
 add-layouts : tie.Need-add-layouts Inv-loop μ-loop
 add-layouts c = search needs
@@ -104,10 +93,8 @@ loop-less c = let line = layout c in omega arith
 
 loop-again : tie.Need-loop-again Inv-loop μ-loop
 loop-again c =
-    let l = c .before .before .before .before .before .before .loop in
-    let b = c .before .before .before .before .before .before .before .before .before .before .before .before .before .args .bytes .now in
-    let i = l .inv in
-    record { ready = i .ready; values = i .values; parents-same = simp length-set (i .parents-same); tops-same = i .tops-same; bottoms-same = i .bottoms-same; marks-same = i .marks-same; so-far = so-far-layout b (l .parents) (l .tops) (l .bottoms) (l .marks) (l .at) (l .layouts) (l .jobs) (l .ends) (i .so-far) _ (layout c) (omega (arith, i .ready .room .parents-room, i .parents-same)) }
+    let i = c .before .before .before .before .before .before .loop .inv in
+    record { ready = i .ready; values = i .values; parents-same = simp length-set (i .parents-same); tops-same = i .tops-same; bottoms-same = i .bottoms-same; marks-same = i .marks-same; so-far = so-far-layout _ _ _ _ _ _ _ _ _ (i .so-far) _ (layout c) (omega (arith, i .ready .room .parents-room, i .parents-same)) }
 
 enum-known-step-2 : tie.Need-enum-known-step-2 Inv-loop μ-loop
 enum-known-step-2 c = search needs
@@ -117,30 +104,24 @@ mul-tops c = search needs
 
 slice-write-tops : tie.Need-slice-write-tops Inv-loop μ-loop
 slice-write-tops c =
-    let l = c .before .before .before .before .before .before .loop in
-    let b = c .before .before .before .before .before .before .before .before .before .before .before .before .before .args .bytes .now in
-    let i = l .inv in
-    top-room b (l .parents) (l .tops) (l .bottoms) (l .marks) (l .at) (l .layouts) (l .jobs) (l .ends) (i .so-far) (c .before .step2 .given .0 .0 .0) (c .before .step2 .given .0 .1 .0 .0) (c .before .step2 .given .0 .1 .1 .0) (job c) (roomy (i .parents-same) (i .tops-same) (i .bottoms-same) (i .marks-same) (i .ready .room))
+    let i = c .before .before .before .before .before .before .loop .inv in
+    top-room _ _ _ _ _ _ _ _ _ (i .so-far) (c .before .step2 .given .0 .0 .0) (c .before .step2 .given .0 .1 .0 .0) (c .before .step2 .given .0 .1 .1 .0) (job c) (roomy (i .parents-same) (i .tops-same) (i .bottoms-same) (i .marks-same) (i .ready .room))
 
 mul-bottoms : tie.Need-mul-bottoms Inv-loop μ-loop
 mul-bottoms c = search needs
 
 slice-write-bottoms : tie.Need-slice-write-bottoms Inv-loop μ-loop
 slice-write-bottoms c =
-    let l = c .before .before .before .before .before .before .loop in
-    let b = c .before .before .before .before .before .before .before .before .before .before .before .before .before .args .bytes .now in
-    let i = l .inv in
-    bottom-room b (l .parents) (l .tops) (l .bottoms) (l .marks) (l .at) (l .layouts) (l .jobs) (l .ends) (i .so-far) (c .before .step2 .given .0 .0 .0) (c .before .step2 .given .0 .1 .0 .0) (c .before .step2 .given .0 .1 .1 .0) (job c) (roomy (i .parents-same) (i .tops-same) (i .bottoms-same) (i .marks-same) (i .ready .room))
+    let i = c .before .before .before .before .before .before .loop .inv in
+    bottom-room _ _ _ _ _ _ _ _ _ (i .so-far) (c .before .step2 .given .0 .0 .0) (c .before .step2 .given .0 .1 .0 .0) (c .before .step2 .given .0 .1 .1 .0) (job c) (roomy (i .parents-same) (i .tops-same) (i .bottoms-same) (i .marks-same) (i .ready .room))
 
 cast-marks : tie.Need-cast-marks Inv-loop μ-loop
 cast-marks c = omega (arith, job c .one)
 
 slice-write-marks : tie.Need-slice-write-marks Inv-loop μ-loop
 slice-write-marks c =
-    let l = c .before .before .before .before .before .before .loop in
-    let b = c .before .before .before .before .before .before .before .before .before .before .before .before .before .args .bytes .now in
-    let i = l .inv in
-    mark-room b (l .parents) (l .tops) (l .bottoms) (l .marks) (l .at) (l .layouts) (l .jobs) (l .ends) (i .so-far) (c .before .step2 .given .0 .0 .0) (c .before .step2 .given .0 .1 .0 .0) (c .before .step2 .given .0 .1 .1 .0) (job c) (roomy (i .parents-same) (i .tops-same) (i .bottoms-same) (i .marks-same) (i .ready .room))
+    let i = c .before .before .before .before .before .before .loop .inv in
+    mark-room _ _ _ _ _ _ _ _ _ (i .so-far) (c .before .step2 .given .0 .0 .0) (c .before .step2 .given .0 .1 .0 .0) (c .before .step2 .given .0 .1 .1 .0) (job c) (roomy (i .parents-same) (i .tops-same) (i .bottoms-same) (i .marks-same) (i .ready .room))
 
 add-jobs : tie.Need-add-jobs Inv-loop μ-loop
 add-jobs c = search needs
@@ -153,10 +134,8 @@ loop-less-2 c = let line = job c in omega arith
 
 loop-again-2 : tie.Need-loop-again-2 Inv-loop μ-loop
 loop-again-2 c =
-    let l = c .before .before .before .before .before .before .loop in
-    let b = c .before .before .before .before .before .before .before .before .before .before .before .before .before .args .bytes .now in
-    let i = l .inv in
-    record { ready = i .ready; values = i .values; parents-same = i .parents-same; tops-same = simp length-set (i .tops-same); bottoms-same = simp length-set (i .bottoms-same); marks-same = simp length-set (i .marks-same); so-far = so-far-job b (l .parents) (l .tops) (l .bottoms) (l .marks) (l .at) (l .layouts) (l .jobs) (l .ends) (i .so-far) (c .before .step2 .given .0 .0 .0) (c .before .step2 .given .0 .1 .0 .0) (c .before .step2 .given .0 .1 .1 .0) (job c) (roomy (i .parents-same) (i .tops-same) (i .bottoms-same) (i .marks-same) (i .ready .room)) }
+    let i = c .before .before .before .before .before .before .loop .inv in
+    record { ready = i .ready; values = i .values; parents-same = i .parents-same; tops-same = simp length-set (i .tops-same); bottoms-same = simp length-set (i .bottoms-same); marks-same = simp length-set (i .marks-same); so-far = so-far-job _ _ _ _ _ _ _ _ _ (i .so-far) (c .before .step2 .given .0 .0 .0) (c .before .step2 .given .0 .1 .0 .0) (c .before .step2 .given .0 .1 .1 .0) (job c) (roomy (i .parents-same) (i .tops-same) (i .bottoms-same) (i .marks-same) (i .ready .room)) }
 
 enum-told : tie.Need-enum-told Inv-loop μ-loop
 enum-told c = search needs
@@ -169,12 +148,14 @@ loop-less-3 c = let line = end c in omega arith
 
 loop-again-3 : tie.Need-loop-again-3 Inv-loop μ-loop
 loop-again-3 c =
-    let l = c .before .before .before .before .before .loop in
-    let i = l .inv in
+    let i = c .before .before .before .before .before .loop .inv in
     record { ready = i .ready; values = i .values; parents-same = i .parents-same; tops-same = i .tops-same; bottoms-same = i .bottoms-same; marks-same = i .marks-same; so-far = so-far-end _ _ _ _ _ _ _ _ _ (i .so-far) (end c) }
 
 enum-known-step-3 : tie.Need-enum-known-step-3 Inv-loop μ-loop
 enum-known-step-3 c = search needs
+
+stopped-requires : tie.Need-stopped-requires Inv-loop μ-loop
+stopped-requires c κs = let s = c .before .before .before .before .before .before .loop .inv .so-far in record { few-layouts = s .holds .few-layouts; few-jobs = s .holds .few-jobs; few-ends = s .one-end }
 
 same-length : tie.Need-same-length Inv-loop μ-loop
 same-length c = search needs
@@ -190,10 +171,8 @@ same-length-4 c = search needs
 
 returns : tie.Need-returns Inv-loop μ-loop
 returns c =
-    let l = c .before .before .before .before .before .before .loop in
-    let b = c .before .before .before .before .before .before .before .before .before .before .before .before .before .args .bytes .now in
-    let i = l .inv in
-    read-stopped b (l .parents) (l .tops) (l .bottoms) (l .marks) (l .at) (l .layouts) (l .jobs) (l .ends) (i .so-far) _ (subst (StepOutcome b (l .at) (l .layouts + l .jobs + l .ends + 1) (held (l .parents) (l .tops) (l .bottoms) (l .marks) (l .layouts) (l .jobs)) (endedAt (l .ends))) (c .before .step3 .given .1) (step-at (c .before .before .before)))
+    let s = c .before .before .before .before .before .before .before .loop .inv .so-far in
+    read-stopped _ _ _ _ _ _ _ _ _ s _ (c .stopped .result) (subst (Outcome s) (c .before .before .step3 .given .1) (step-at (c .before .before .before .before))) (c .stopped .ensures)
 
 at-last-requires : tie.Need-at-last-requires Inv-loop μ-loop
 at-last-requires c κs = let s = c .before .loop .inv .so-far in record { few-layouts = s .holds .few-layouts; few-jobs = s .holds .few-jobs; few-ends = s .one-end }
@@ -211,7 +190,7 @@ same-length-8 : tie.Need-same-length-8 Inv-loop μ-loop
 same-length-8 c = search needs
 
 returns-2 : tie.Need-returns-2 Inv-loop μ-loop
-returns-2 c = read-last _ _ _ _ _ _ _ _ _ (c .before .before .loop .inv .so-far) (omega (arith, c .before .loop-test .left)) _ (c .at-last .ensures)
+returns-2 c = read-last _ _ _ _ _ _ _ _ _ (c .before .before .loop .inv .so-far) (c .at-last .result) (omega (arith, c .before .loop-test .left)) (c .at-last .ensures)
 
 pub read-unchecked-spec : {M : Type 1} → statement M
 read-unchecked-spec =
@@ -245,6 +224,7 @@ read-unchecked-spec =
     loop-less-3
     loop-again-3
     enum-known-step-3
+    stopped-requires
     same-length
     same-length-2
     same-length-3

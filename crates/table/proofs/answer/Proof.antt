@@ -1,6 +1,6 @@
--- `table::answer` meets its contract: by the check, and then by what stopped the reading.
-use mathlib.Core.Path.{refl}
-use native.Mathlib.Omega.{arith}
+-- `table::answer` meets its contract: by the check, a wrong job or what stands after the end.
+use mathlib.Core.Path.{refl, sym}
+use Rattle.model.specs.Table.{unlessRefused, onItsLine}
 use borrow.Author.Needs.{needs}
 use Rattle.table.proofs.answer.Statement.{statement}
 use Rattle.table.proofs.answer.Tie as tie
@@ -8,56 +8,29 @@ use Rattle.table.proofs.answer.Tie as tie
 enum-known-check : tie.Need-enum-known-check
 enum-known-check c = search needs
 
-cast-t8 : tie.Need-cast-t8
-cast-t8 c = search needs
-
-add-t9 : tie.Need-add-t9
-add-t9 c = let known = rw (c .before .before .before .check .given .1) at (c .before .before .before .before .before .pre) in omega arith
-
-add-t10 : tie.Need-add-t10
-add-t10 c = let known = rw (c .before .before .before .check .given .1) at (c .before .before .before .before .before .pre) in omega arith
-
-cast-t11 : tie.Need-cast-t11
-cast-t11 c = let known = rw (c .before .before .before .check .given .1) at (c .before .before .before .before .before .pre) in omega arith
+line-of-job-requires : tie.Need-line-of-job-requires
+line-of-job-requires c κs = c .before .before .before .before .pre _ _ (c .before .check .given .1)
 
 enum-told : tie.Need-enum-told
 enum-told c = search needs
 
-enum-known-stop : tie.Need-enum-known-stop
-enum-known-stop c = search needs
+enum-known-after : tie.Need-enum-known-after
+enum-known-after c = search needs
 
 enum-told-2 : tie.Need-enum-told-2
 enum-told-2 c = search needs
 
-cast-t14 : tie.Need-cast-t14
-cast-t14 c = let known = rw (c .before .before .before .enum-told .given .1) at (c .before .before .before .before .before .pre) in omega arith
-
-cast-t15 : tie.Need-cast-t15
-cast-t15 c = let known = rw (c .before .before .before .before .enum-told .given .1) at (c .before .before .before .before .before .before .pre) in omega arith
-
 returns : tie.Need-returns
-returns c = rw (c .before .before .before .check .given .1) refl
+unfolding unlessRefused onItsLine
+returns c = λ tb n m. rw (c .before .before .check .given .1, c .line-of-job .ensures) refl
 
 returns-2 : tie.Need-returns-2
-returns-2 c = rw (c .before .before .before .enum-told .given .1, c .before .stop .given .1) refl
+unfolding unlessRefused onItsLine
+returns-2 c = λ tb n m. rw (c .before .before .before .enum-told .given .1, c .before .after .given .1) refl
 
 returns-3 : tie.Need-returns-3
-returns-3 c = rw (c .before .before .before .before .enum-told .given .1, c .before .before .enum-told2 .given .1) (refl, refl, refl, refl)
+unfolding unlessRefused onItsLine
+returns-3 c = λ tb n m. rw (c .before .before .enum-told .given .1, c .enum-told2 .given .1) (refl, sym n, sym m)
 
 pub answer-spec : {M : Type 1} → statement M
-answer-spec =
-    tie.close
-    (tie.spec
-    enum-known-check
-    cast-t8
-    add-t9
-    add-t10
-    cast-t11
-    enum-told
-    enum-known-stop
-    enum-told-2
-    cast-t14
-    cast-t15
-    returns
-    returns-2
-    returns-3)
+answer-spec = tie.close (tie.spec enum-known-check line-of-job-requires enum-told enum-known-after enum-told-2 returns returns-2 returns-3)

@@ -1,50 +1,71 @@
--- `table::read_lines` meets its contract: the lines are read, and their jobs are checked in the settled tree.
-use Rattle.table.specs.Whole.{answerable, lines-outcome}
+-- `table::read_lines` meets its contract: the lines are read, and at the end the jobs are checked in the settled tree.
+use mathlib.Core.Path.{sym, subst, _∙_}
 use lib.Seq.{length-take-le}
-use mathlib.Core.Path.{sym, _∙_}
+use native.Mathlib.Omega.{arith}
+use Rattle.reading.specs.Steps.{EndRead, LinesRead, held}
+use Rattle.table.specs.Whole.{right-tree, wrong-placed, lines-outcome}
 use borrow.Author.Needs.{needs}
 use Rattle.table.proofs.read_lines.Statement.{statement}
 use Rattle.table.proofs.read_lines.Tie as tie
 
+-- the end was read
+ended : (c : tie.After-known-told2)
+    → let v = c .before .before .before .before .before .before .before .before .before .before .before .read-unchecked .last .1 in
+    let g = c .before .lines2 .given .0 in
+    EndRead (c .before .before .before .before .before .before .before .before .before .before .before .before .before .before .before .before .before .before .before .before .before .args .bytes .now) (v .0) (v .1 .0) (v .1 .1 .0) (v .1 .1 .1 .0) (g .0 .layouts) (g .0 .jobs) (g .1 .0)
+ended c =
+    let v = c .before .before .before .before .before .before .before .before .before .before .before .read-unchecked .last .1 in
+    subst (LinesRead (c .before .before .before .before .before .before .before .before .before .before .before .before .before .before .before .before .before .before .before .before .before .args .bytes .now) (v .0) (v .1 .0) (v .1 .1 .0) (v .1 .1 .1 .0)) (c .before .lines2 .given .1) (c .before .before .before .before .before .before .before .before .before .before .before .read-unchecked .ensures)
+
 read-unchecked-requires : tie.Need-read-unchecked-requires
 read-unchecked-requires c κs = c .before .before .before .before .before .before .before .before .before .pre .0
 
-slice-reshare-prefix-settle-some : tie.Need-slice-reshare-prefix-settle-some
-slice-reshare-prefix-settle-some c = c .before .before .before .before .before .before .before .before .read-unchecked .ensures .holds .parents-hold
+enum-known-lines : tie.Need-enum-known-lines
+enum-known-lines c = search needs
 
-slice-aggregate-settle-some : tie.Need-slice-aggregate-settle-some
-slice-aggregate-settle-some c = let e = c .before .before .before .before .before .before .before .before .before .read-unchecked in sym (length-take-le (e .result .layouts) (e .last .1 .0) (e .ensures .holds .parents-hold))
+enum-known-lines-2 : tie.Need-enum-known-lines-2
+enum-known-lines-2 c = search needs
 
-settle-some-requires : tie.Need-settle-some-requires
-settle-some-requires c κs =
-    let l = c .before .before .before .before .before .before .before .before .before .before .read-unchecked .ensures in (
-      rw (length-take-le _ _ (l .holds .parents-hold)) (l .holds .few-layouts),
-      (l .holds .right, c .before .before .before .before .before .before .before .before .before .before .before .before .before .before .before .before .before .before .before .before .pre .1),
-    )
+cast-layouts : tie.Need-cast-layouts
+cast-layouts c = search needs
+
+cast-jobs : tie.Need-cast-jobs
+cast-jobs c = search needs
+
+slice-reshare-prefix-settle-tree : tie.Need-slice-reshare-prefix-settle-tree
+slice-reshare-prefix-settle-tree c = ended (c .before .before) .holds .parents-hold
+
+slice-aggregate-settle-tree : tie.Need-slice-aggregate-settle-tree
+slice-aggregate-settle-tree c = sym (length-take-le _ (c .before .before .before .before .before .before .before .before .before .before .before .before .before .before .read-unchecked .last .1 .0) (ended (c .before .before .before) .holds .parents-hold))
+
+settle-tree-requires : tie.Need-settle-tree-requires
+settle-tree-requires c κs =
+    let e = ended (c .before .before .before .before) in
+    let n = length-take-le _ (c .before .before .before .before .before .before .before .before .before .before .before .before .before .before .before .read-unchecked .last .1 .0) (e .holds .parents-hold) in
+    (right-tree _ (omega (arith, n, e .some-layout)) (omega (arith, n, e .holds .few-layouts)) (e .holds .right), c .before .before .before .before .before .before .before .before .before .before .before .before .before .before .before .before .before .before .before .before .before .before .before .before .before .pre .1)
 
 slice-reshare-prefix-check-jobs : tie.Need-slice-reshare-prefix-check-jobs
-slice-reshare-prefix-check-jobs c = c .before .before .before .before .before .before .before .before .before .before .before .before .read-unchecked .ensures .holds .tops-hold
+slice-reshare-prefix-check-jobs c = ended (c .before .before .before .before .before .before) .holds .tops-hold
 
 slice-aggregate-check-jobs : tie.Need-slice-aggregate-check-jobs
-slice-aggregate-check-jobs c = let e = c .before .before .before .before .before .before .before .before .before .before .before .before .before .read-unchecked in sym (length-take-le (e .result .jobs) (e .last .1 .1 .0) (e .ensures .holds .tops-hold))
+slice-aggregate-check-jobs c = sym (length-take-le _ (c .before .before .before .before .before .before .before .before .before .before .before .before .before .before .before .before .before .before .read-unchecked .last .1 .1 .0) (ended (c .before .before .before .before .before .before .before) .holds .tops-hold))
 
 slice-reshare-prefix-check-jobs-2 : tie.Need-slice-reshare-prefix-check-jobs-2
-slice-reshare-prefix-check-jobs-2 c = c .before .before .before .before .before .before .before .before .before .before .before .before .before .read-unchecked .ensures .holds .bottoms-hold
+slice-reshare-prefix-check-jobs-2 c = ended (c .before .before .before .before .before .before .before) .holds .bottoms-hold
 
 slice-aggregate-check-jobs-2 : tie.Need-slice-aggregate-check-jobs-2
-slice-aggregate-check-jobs-2 c = let e = c .before .before .before .before .before .before .before .before .before .before .before .before .before .before .read-unchecked in sym (length-take-le (e .result .jobs) (e .last .1 .1 .1 .0) (e .ensures .holds .bottoms-hold))
+slice-aggregate-check-jobs-2 c = sym (length-take-le _ (c .before .before .before .before .before .before .before .before .before .before .before .before .before .before .before .before .before .before .before .read-unchecked .last .1 .1 .1 .0) (ended (c .before .before .before .before .before .before .before .before) .holds .bottoms-hold))
 
 check-jobs-requires : tie.Need-check-jobs-requires
 check-jobs-requires c κs =
-    let e = c .before .before .before .before .before .before .before .before .before .before .before .before .before .before .read-unchecked in
-    let h = e .ensures .holds in
-    let t = length-take-le (e .result .jobs) (e .last .1 .1 .0) (h .tops-hold) in (
-      h .few-layouts,
-      (rw t (h .few-jobs), length-take-le (e .result .jobs) (e .last .1 .1 .1 .0) (h .bottoms-hold) ∙ sym t),
-    )
+    let h = ended (c .before .before .before .before .before .before .before .before) .holds in
+    let t = length-take-le _ (c .before .before .before .before .before .before .before .before .before .before .before .before .before .before .before .before .before .before .before .read-unchecked .last .1 .1 .0) (h .tops-hold) in
+    (h .few-layouts, (rw t (h .few-jobs), length-take-le _ (c .before .before .before .before .before .before .before .before .before .before .before .before .before .before .before .before .before .before .before .read-unchecked .last .1 .1 .1 .0) (h .bottoms-hold) ∙ sym t))
 
 answer-requires : tie.Need-answer-requires
-answer-requires c κs = answerable _ _ _ _ _ _ _ _ _ _ (c .before .before .before .before .before .before .before .before .before .before .before .before .before .before .before .read-unchecked .ensures) (c .before .before .before .before .settle-some .ensures) (c .check-jobs .ensures)
+answer-requires c κs =
+    let e = ended (c .before .before .before .before .before .before .before .before .before) in
+    wrong-placed _ _ _ _ _ _ _ _ _ _ e (c .before .before .before .before .settle-tree .ensures) (c .check-jobs .ensures)
 
 same-length : tie.Need-same-length
 same-length c = search needs
@@ -59,24 +80,34 @@ same-length-4 : tie.Need-same-length-4
 same-length-4 c = search needs
 
 returns : tie.Need-returns
-returns c = lines-outcome _ _ _ _ _ _ _ _ _ _ (c .before .before .before .before .before .before .before .before .before .before .before .before .before .before .before .before .read-unchecked .ensures) (c .before .before .before .before .before .settle-some .ensures) (c .before .check-jobs .ensures) (c .answer .result) (c .answer .ensures)
+returns c =
+    let v = c .before .before .before .before .before .before .before .before .before .before .before .read-unchecked .last .1 in
+    subst (LinesRead (c .before .before .before .before .before .before .before .before .before .before .before .before .before .before .before .before .before .before .before .before .before .args .bytes .now) (v .0) (v .1 .0) (v .1 .1 .0) (v .1 .1 .1 .0)) (c .before .lines .given .1) (c .before .before .before .before .before .before .before .before .before .before .before .read-unchecked .ensures)
+
+same-length-5 : tie.Need-same-length-5
+same-length-5 c = search needs
+
+same-length-6 : tie.Need-same-length-6
+same-length-6 c = search needs
+
+same-length-7 : tie.Need-same-length-7
+same-length-7 c = search needs
+
+same-length-8 : tie.Need-same-length-8
+same-length-8 c = search needs
+
+returns-2 : tie.Need-returns-2
+returns-2 c =
+    let e = ended (c .before .before .before .before .before .before .before .before .before .before) in
+    let v = c .before .before .before .before .before .before .before .before .before .before .before .before .before .before .before .before .before .before .before .before .before .read-unchecked .last .1 in
+    let n = c .before .before .before .before .before .before .before .before .before .before .before .lines2 .given .0 .0 in
+    lines-outcome _ _ _ _ _ _ _ _ _ _ e (c .before .before .before .before .before .settle-tree .ensures) (c .before .check-jobs .ensures) (c .answer .result)
+    (c .answer .ensures (held (v .0) (v .1 .0) (v .1 .1 .0) (v .1 .1 .1 .0) (n .layouts) (n .jobs)) (length-take-le (n .layouts) (v .0) (e .holds .parents-hold)) (length-take-le (n .jobs) (v .1 .0) (e .holds .tops-hold)))
 
 pub read-lines-spec : {M : Type 1} → statement M
 read-lines-spec =
     tie.close
     (tie.spec
-    read-unchecked-requires
-    slice-reshare-prefix-settle-some
-    slice-aggregate-settle-some
-    settle-some-requires
-    slice-reshare-prefix-check-jobs
-    slice-aggregate-check-jobs
-    slice-reshare-prefix-check-jobs-2
-    slice-aggregate-check-jobs-2
-    check-jobs-requires
-    answer-requires
-    same-length
-    same-length-2
-    same-length-3
-    same-length-4
-    returns)
+    read-unchecked-requires enum-known-lines enum-known-lines-2 cast-layouts cast-jobs slice-reshare-prefix-settle-tree slice-aggregate-settle-tree settle-tree-requires
+    slice-reshare-prefix-check-jobs slice-aggregate-check-jobs slice-reshare-prefix-check-jobs-2 slice-aggregate-check-jobs-2 check-jobs-requires
+    answer-requires same-length same-length-2 same-length-3 same-length-4 returns same-length-5 same-length-6 same-length-7 same-length-8 returns-2)
