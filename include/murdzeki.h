@@ -14,14 +14,15 @@ extern "C" {
 
 /*
  * Reads the table in the first `input_length` bytes of `input`, plans its passes and writes the plan's lines to `output`; a table that
- * cannot be read is answered by one refusal line. Returns the length of these lines, and sets every byte of `output` from there up to
- * `output_length` to 0.
+ * cannot be read is answered by one refusal line: 1E, its number, 01 to 07 or 09, and the line that is wrong. Two jobs share a pass only
+ * if they are in the same printing window: lines 05 name it, and jobs on other lines are in window 0. Returns the length of the lines
+ * written, and sets every byte of `output` from there up to `output_length` to 0.
  *
  * Returns 0 if and only if `output_length` is below MURDZEKI_OUTPUT; then nothing is written.
  *
- * Any bytes may be handed over. `input` is only read, and nothing outside the two buffers is touched. The two must not overlap, and
- * neither pointer may be NULL, not even with length 0. The call needs less than 1 MiB of stack and no other memory, always ends, keeps
- * no state, and can be made from several threads at once.
+ * Any bytes may be handed over; the longest table that is accepted has 60,427. `input` is only read, and nothing outside the two buffers
+ * is touched. The two must not overlap, and neither pointer may be NULL, not even with length 0. The call needs less than 1 MiB of stack
+ * and no other memory, always ends, keeps no state, and can be made from several threads at once.
  */
 size_t murdzeki_plan(const uint8_t *input, size_t input_length, uint8_t *output, size_t output_length);
 

@@ -1,5 +1,5 @@
-/* Calls the whole run as a press driver does: a plan, the longest plan, each refusal, outputs about the length asked for, no input. Expected
-   lines are document 01's, as 2026-01, 2026-02 and 2026-04 changed them, or worked out by hand. */
+/* Calls the whole run as a press driver does: a plan, the longest plan, the longest table, each refusal, outputs about the length asked for,
+   no input. Expected lines are document 01's, as 2026-01, 2026-02, 2026-04 and 2026-05 changed them, or worked out by hand. */
 #include <stdio.h>
 #include <stdlib.h>
 #include <string.h>
@@ -48,6 +48,15 @@ static const struct example examples[] = {
     {"a wrong job in front of the last layout", "01FFFF\n0200010000\n010000\n0300020001\n", "1E060002\n"},
     {"a wrong parent after a wrong job", "01FFFF\n0200010000\n010005\n0300020001\n", "1E040003\n"},
     {"wrong counts", "01FFFF\n0300020000\n", "1E070002\n"},
+    {"two windows", "01FFFF\n010000\n0200010001\n050001000101\n0300020002\n", "120000\n120001\n1F0000000200000002\n"},
+    {"pairs in two windows",
+     "01FFFF\n010000\n050001000102\n0200010001\n050001000102\n050000000100\n0300020004\n",
+     "110000000200010001\n110001000300010001\n1F0002000000000002\n"},
+    {"the last window", "01FFFF\n010000\n05000000010F\n05000100010F\n0300020002\n", "110000000100010001\n1F0001000000000001\n"},
+    {"a window too many", "01FFFF\n050000000010\n0300010001\n", "1E090002\n"},
+    {"the greatest window number", "01FFFF\n0500000000FF\n0300010001\n", "1E090002\n"},
+    {"a window too many after the end", "01FFFF\n0300010000\n050000000010\n", "1E090003\n"},
+    {"a line without its window", "01FFFF\n0500000000\n0300010001\n", "1E010002\n"},
 };
 
 static int failed = 0;
@@ -125,7 +134,7 @@ static char *text(size_t length)
 /* Layouts, each below the one before it or all below the first, and jobs that are all the same. */
 static char *table_of(size_t layouts, int chain, size_t jobs, const char *job, const char *end)
 {
-    char *table = text(7 * layouts + 11 * jobs + strlen(end));
+    char *table = text(7 * layouts + strlen(job) * jobs + strlen(end));
     char *at = table + sprintf(table, "01FFFF\n");
     for (size_t i = 1; i < layouts; i++) {
         at += sprintf(at, "01%04X\n", chain ? (unsigned)i - 1 : 0);
@@ -146,18 +155,18 @@ static void grown(const char *name, size_t layouts, int chain, size_t jobs, cons
     free(table);
 }
 
-/* 4,096 jobs that all accept layouts 2, 1 and 0: each takes the next one, and its lookup visits one cell. */
-static void longest_plan(void)
+/* 4,096 jobs that all accept layouts 2, 1 and 0, in one window: each takes the next one, and its lookup visits one cell. */
+static void paired(const char *name, char *table, size_t table_length)
 {
-    char *table = table_of(3, 1, 4096, "0200000002\n", "0300031000\n");
     char *plan = text(38931);
     char *at = plan;
     for (unsigned i = 0; i < 4096; i += 2) {
         at += sprintf(at, "11%04X%04X00010002\n", i, i + 1);
     }
     strcpy(at, "1F0800000000000800\n");
-    struct example example = {"the longest plan", table, plan};
-    check(example.name, strlen(plan) == 38931);
+    struct example example = {name, table, plan};
+    check(name, strlen(plan) == 38931);
+    check(name, strlen(table) == table_length);
     plans_in_each(&example);
     free(table);
     free(plan);
@@ -171,7 +180,8 @@ int main(void)
     grown("a layout too many", 1025, 0, 0, "", "1E030401\n");
     grown("a job too many", 1, 0, 4097, "", "1E031002\n");
     grown("the longest chain", 1024, 1, 1, "0304000001\n", "120000\n1F0000000100000000\n");
-    longest_plan();
+    paired("the longest plan", table_of(3, 1, 4096, "0200000002\n", "0300031000\n"), 45088);
+    paired("the longest table", table_of(1024, 1, 4096, "050000000207\n", "0304001000\n"), 60427);
     printf("driver: %zu calls\n%zu passed, %d failed\n", calls, calls - (size_t)failed, failed);
     return failed != 0;
 }

@@ -1,9 +1,9 @@
 //! Document 01's own tables ("Tables to try" and the bakehouse table of "The plan"), with what it says
-//! of each as changed by 2026-01, 2026-02 and 2026-04, the tables on which wrong planners fail, and
-//! shared stretches. Pairs, both ends of what they share, visits, refusals and stretches are worked
+//! of each as changed by 2026-01, 2026-02, 2026-04 and 2026-05, the tables on which wrong planners fail,
+//! and shared stretches. Pairs, both ends of what they share, visits, refusals and stretches are worked
 //! out by hand from the definitions.
 
-use crate::reference::{Refusal, Table, ABSENT};
+use crate::reference::{Refusal, Table, ABSENT, WINDOW_LIMIT};
 
 /// What is said of a table.
 pub enum Said {
@@ -19,7 +19,7 @@ pub type Pair = (u16, u16, u16, u16);
 
 /// The pairs, every other job being single; and the cell count.
 pub struct Passes {
-    pub pairs: &'static [Pair],
+    pub pairs: Vec<Pair>,
     pub visits: u32,
 }
 
@@ -31,13 +31,15 @@ pub struct Example {
 
 const F: u16 = ABSENT;
 
-/// A job by top and bottom.
+/// A job by top and bottom, in window 0 or in the one given first.
 enum Job {
     Plain(u16, u16),
     Solo(u16, u16),
+    In(u8, u16, u16),
+    SoloIn(u8, u16, u16),
 }
 
-use Job::{Plain, Solo};
+use Job::{In, Plain, Solo, SoloIn};
 
 fn example(name: &'static str, parents: &[u16], jobs: &[Job], said: Said) -> Example {
     let mut table = Table {
@@ -48,12 +50,15 @@ fn example(name: &'static str, parents: &[u16], jobs: &[Job], said: Said) -> Exa
         match *job {
             Plain(top, bottom) => table.add_job(top, bottom, 0),
             Solo(top, bottom) => table.add_job(top, bottom, 1),
+            In(window, top, bottom) => table.add_job_in(window, top, bottom, 0),
+            SoloIn(window, top, bottom) => table.add_job_in(window, top, bottom, 1),
         }
     }
     Example { name, table, said }
 }
 
-fn planned(pairs: &'static [Pair], visits: u32) -> Said {
+fn planned(pairs: &[Pair], visits: u32) -> Said {
+    let pairs = pairs.to_vec();
     Said::Planned(Passes { pairs, visits })
 }
 
@@ -123,6 +128,12 @@ pub fn bakehouse() -> Example {
 
 /// The tables on which wrong planners fail where the marked ones do not show it.
 pub fn telling() -> Vec<Example> {
+    let mut examples = telling_without_windows();
+    examples.extend(telling_windows());
+    examples
+}
+
+fn telling_without_windows() -> Vec<Example> {
     vec![
         // Order 2, 3, 0, 1; jobs by slot 2, 0, 3, 1. Jobs 2 and 3 ask for half of the slots each. In
         // the order 0, 1, 2, 3 jobs 0 and 1 take each other on layout 1.
@@ -237,9 +248,190 @@ pub fn telling() -> Vec<Example> {
     ]
 }
 
-/// A marked or telling table by its name.
+/// Tables with windows.
+fn telling_windows() -> Vec<Example> {
+    vec![
+        // Each asks for the one slot of its window.
+        example(
+            "two windows",
+            &[F, 0],
+            &[Plain(1, 1), In(1, 1, 1)],
+            planned(&[], 2),
+        ),
+        // The next job of the same window is taken, not the next job. Jobs 0 and 1 ask for both slots of
+        // their windows.
+        example(
+            "windows by turns",
+            &[F, 0],
+            &[In(2, 1, 1), Plain(1, 1), In(2, 1, 1), Plain(0, 1)],
+            planned(&[(0, 2, 1, 1), (1, 3, 1, 1)], 2),
+        ),
+        // Order 0 to 4. Window 1 has jobs 1, 0, 3 by slot, of four slots, window 0 jobs 4, 2, of two. Jobs
+        // 0, 1, 2, 4 ask for slots 1 and 2, slot 0, slot 1, slot 0: 7, 5, 3 and 3 visits.
+        example(
+            "shelves of two sizes",
+            &[F, 0, 0],
+            &[
+                In(1, 2, 2),
+                In(1, 1, 1),
+                Plain(2, 2),
+                In(1, 2, 2),
+                Plain(1, 1),
+            ],
+            planned(&[(0, 3, 2, 2)], 18),
+        ),
+        // Job 1 asks for both slots of window 1; the solo job has its slot in window 0.
+        example(
+            "a solo job in window 0",
+            &[F, 0],
+            &[Solo(1, 1), In(1, 1, 1), In(1, 1, 1)],
+            planned(&[(1, 2, 1, 1)], 1),
+        ),
+        // Job 0 asks for the three slots of window 3, of four.
+        example(
+            "jobs 0-0 in windows",
+            &[F, 0],
+            &[In(3, 1, 1), In(3, 0, 0), Plain(0, 0), In(3, 0, 0)],
+            planned(&[], 5),
+        ),
+        example(
+            "the last window",
+            &[F, 0],
+            &[In(15, 0, 1), In(15, 0, 1)],
+            planned(&[(0, 1, 1, 1)], 1),
+        ),
+        // Order 0 to 6, layout 3 leaf 0, layout 2 leaf 1. By slot window 0 has jobs 0, 2, 4, 6, window 1
+        // jobs 1, 3, window 15 job 5. Jobs 0 and 6 ask for half of four slots, jobs 1 and 5 for all of
+        // their windows. But for the windows 0 would take 1, 2 take 3, and 5 take 6.
+        example(
+            "printing windows",
+            &[F, 0, 0, 1],
+            &[
+                Plain(3, 3),
+                In(1, 1, 3),
+                Plain(1, 3),
+                In(1, 0, 3),
+                Solo(2, 2),
+                In(15, 2, 2),
+                Plain(0, 2),
+            ],
+            planned(&[(0, 2, 3, 3), (1, 3, 1, 3)], 8),
+        ),
+        example(
+            "a window too many",
+            &[F],
+            &[Plain(0, 0), In(16, 0, 0)],
+            Said::Refused(9, 1, 3),
+        ),
+        example(
+            "the greatest window number",
+            &[F],
+            &[In(255, 0, 0), In(255, 0, 0)],
+            Said::Refused(9, 0, 2),
+        ),
+    ]
+}
+
+/// In every number of windows one, two and three jobs 1-1, the jobs in each window by turns. The running
+/// order is that of the numbers. A job alone in its window asks for its slot, the first of two for both,
+/// and of three the first and the last for three slots of four.
+pub fn in_turn() -> Vec<Example> {
+    let with_each = |each: u16| (1..=WINDOW_LIMIT as u16).map(move |windows| (windows, each));
+    let of_windows = |(windows, each): (u16, u16)| {
+        let job = |job: u16| In((job % windows) as u8, 1, 1);
+        let jobs: Vec<Job> = (0..windows * each).map(job).collect();
+        let pair = |job: u16| (job, job + windows, 1, 1);
+        let pairs: Vec<Pair> = (0..windows).map(pair).collect();
+        let said = match each {
+            1 => planned(&[], windows.into()),
+            2 => planned(&pairs, windows.into()),
+            _ => planned(&pairs, 10 * u32::from(windows)),
+        };
+        example("jobs in turn", &[F, 0], &jobs, said)
+    };
+    (1..=3).flat_map(with_each).map(of_windows).collect()
+}
+
+/// Numbers lent to *Plan* that no reader gives: a solo job in a window other than 0, and a window beyond
+/// the last one where the reader would refuse the line before it judges the job.
+pub fn lent() -> Vec<Example> {
+    let refused = |number: u16, job: u16| Said::Refused(number, job, 0);
+    vec![
+        // Job 1 asks for the three slots of window 1, of four.
+        example(
+            "a solo job with a slot in its window",
+            &[F, 0],
+            &[SoloIn(1, 1, 1), In(1, 1, 1), In(1, 1, 1)],
+            planned(&[(1, 2, 1, 1)], 5),
+        ),
+        // Jobs 2 and 3 have slot 1 and slot 2 of window 2, between the solo jobs, and ask for them: 7
+        // visits. Job 4 asks for the one slot of window 0.
+        example(
+            "solo jobs on both sides",
+            &[F, 0, 0, 0],
+            &[
+                SoloIn(2, 1, 1),
+                SoloIn(2, 3, 3),
+                In(2, 2, 2),
+                In(2, 0, 2),
+                Plain(2, 2),
+            ],
+            planned(&[(2, 3, 2, 2)], 8),
+        ),
+        example(
+            "a solo job beyond the windows",
+            &[F],
+            &[SoloIn(255, 0, 0), Plain(0, 1)],
+            refused(9, 0),
+        ),
+        example(
+            "a solo job in window 16",
+            &[F],
+            &[SoloIn(15, 0, 0), SoloIn(16, 0, 0)],
+            refused(9, 1),
+        ),
+        example(
+            "no layout and no window",
+            &[F],
+            &[In(16, 0, 1)],
+            refused(5, 0),
+        ),
+        example(
+            "upward and no window",
+            &[F, 0],
+            &[In(16, 1, 0)],
+            refused(6, 0),
+        ),
+        example(
+            "no window before no layout",
+            &[F],
+            &[In(16, 0, 0), Plain(0, 1)],
+            refused(9, 0),
+        ),
+        example(
+            "no layout before no window",
+            &[F],
+            &[Plain(0, 1), In(16, 0, 0)],
+            refused(5, 0),
+        ),
+        example(
+            "no window before upward",
+            &[F, 0],
+            &[In(255, 1, 1), Plain(1, 0)],
+            refused(9, 0),
+        ),
+        example(
+            "a wrong parent before no window",
+            &[F, 1],
+            &[In(16, 0, 0)],
+            refused(4, 1),
+        ),
+    ]
+}
+
+/// A table that is worked by hand by its name.
 pub fn named(name: &str) -> Result<Example, String> {
-    let mut examples = marked().into_iter().chain(telling());
+    let mut examples = marked().into_iter().chain(telling()).chain(lent());
     let found = examples.find(|example| example.name == name);
     found.ok_or_else(|| format!("no table is named {name:?}"))
 }
@@ -271,8 +463,10 @@ pub const BAKEHOUSE_LOOKUPS: [(usize, u32); 3] = [(4, 7), (1, 7), (2, 11)];
 
 /// Bytes, and all that is printed for them: the bakehouse table, no bytes at all, the two marked tables
 /// that are refused, a solo job that has its place and its slot, two jobs of which the highest and the
-/// deepest shared layout differ, a job before any layout, and a pair on a layout that stands last.
-pub const PRINTINGS: [(&[u8], &[u8]); 8] = [
+/// deepest shared layout differ, a job before any layout, and a pair on a layout that stands last. Then
+/// windows: solo jobs and a job without a window fill window 0, and the last is alone in window 1; a pair
+/// of window 15; a window beyond the last one after the end.
+pub const PRINTINGS: [(&[u8], &[u8]); 11] = [
     (BAKEHOUSE_BYTES, BAKEHOUSE_PLAN),
     (b"", b"1E070001\n"),
     (b"01FFFF\n010001\n", b"1E040002\n"),
@@ -294,6 +488,16 @@ pub const PRINTINGS: [(&[u8], &[u8]); 8] = [
         b"01FFFF\n0200000001\n0400000000\n0200010001\n010000\n0300020003\n",
         b"110000000200010001\n120001\n1F0001000100000005\n",
     ),
+    // Job 2 asks for the three slots of window 0, of four, job 3 for the one of window 1.
+    (
+        b"01FFFF\n010000\n0400010001\n0400010001\n0200010001\n050001000101\n0300020004\n",
+        b"120000\n120001\n120002\n120003\n1F0000000400000006\n",
+    ),
+    (
+        b"05000000010F\n01FFFF\n010000\n050001000100\n05000100010F\n0300020003\n",
+        b"110000000200010001\n120001\n1F0001000100000002\n",
+    ),
+    (b"01FFFF\n0300010000\n050000000010\n", b"1E090003\n"),
 ];
 
 /// Which of two lists a stretch begins.
@@ -377,8 +581,8 @@ const fn refused(number: u16, place: u16) -> Option<Refusal> {
     Some(Refusal { number, place })
 }
 
-/// Short inputs with the refusal that document 01, as 2026-04 changed it, gives them.
-pub const READINGS: [Reading; 67] = [
+/// Short inputs with the refusal that document 01, as 2026-04 and 2026-05 changed it, gives them.
+pub const READINGS: [Reading; 105] = [
     (b"", refused(7, 1)),
     (b"\n", refused(1, 1)),
     (b"01FFFF\n0300010000\n", None),
@@ -468,4 +672,60 @@ pub const READINGS: [Reading; 67] = [
     (b"01FFFF\n0200010000\n0300010002\n", refused(7, 3)),
     (b"01FFFF\n0200000000\n", refused(7, 3)),
     (b"01FFFF\n0200010000\n", refused(7, 3)),
+    // Windows: the first and the last; before any layout.
+    (b"01FFFF\n050000000000\n0300010001\n", None),
+    (b"01FFFF\n05000000000F\n0300010001\n", None),
+    (b"050001000103\n01FFFF\n010000\n0300020001\n", None),
+    // 1: a line 05 without its window, with half of it, with a digit too many, with a wrong digit or
+    // without its 0A, and other lines as long as one, whatever the window.
+    (b"01FFFF\n0500000000\n0300010001\n", refused(1, 2)),
+    (b"01FFFF\n050000\n", refused(1, 2)),
+    (b"01FFFF\n05000000000\n", refused(1, 2)),
+    (b"01FFFF\n0500000000000\n", refused(1, 2)),
+    (b"01FFFF\n05000000000f\n", refused(1, 2)),
+    (b"01FFFF\n0500000000 0\n", refused(1, 2)),
+    (b"01FFFF\n05000000001G\n", refused(1, 2)),
+    (b"01FFFF\n05G000000010\n", refused(1, 2)),
+    (b"01FFFF\n050000000010", refused(1, 2)),
+    (b"01FFFF\n05000000000F", refused(1, 2)),
+    (b"01FFFF\n050000000010\r\n", refused(1, 2)),
+    (b"01FFFF\n020000000000\n0300010001\n", refused(1, 2)),
+    (b"01FFFF\n040000000000\n", refused(1, 2)),
+    (b"01FFFF\n030001000000\n", refused(1, 2)),
+    (b"01FFFF000000\n", refused(1, 1)),
+    (b"01FFFF\n060000000010\n", refused(1, 2)),
+    // 9: a window beyond the last one, before 2, 5, 6 and 7, before any layout, and after faults on
+    // earlier lines that come up there.
+    (b"01FFFF\n050000000010\n0300010001\n", refused(9, 2)),
+    (b"01FFFF\n0500000000FF\n", refused(9, 2)),
+    (b"01FFFF\n050000000080\n", refused(9, 2)),
+    (b"050000000010\n", refused(9, 1)),
+    (b"01FFFF\n050000FFFE10\n0300010001\n", refused(9, 2)),
+    (b"01FFFF\n010000\n05000100001F\n0300020001\n", refused(9, 3)),
+    (
+        b"01FFFF\n0200010000\n050000000010\n0300010002\n",
+        refused(9, 3),
+    ),
+    (b"01FFFF\n0300010000\n0500000000FF\n", refused(9, 3)),
+    (b"01FFFF\n0300010000\n05000000000F\n", refused(2, 3)),
+    (b"01FFFF\n0300010000\n010000\n050000000010\n", refused(2, 3)),
+    (b"0300000000\n050000000010\n", refused(2, 1)),
+    (b"01FFFF\n010005\n050000000010\n", refused(4, 2)),
+    (
+        b"01FFFF\n0200010000\n0300010001\n050000000010\n",
+        refused(5, 2),
+    ),
+    (b"01FFFF\n0300010001\n050000000010\n", refused(7, 2)),
+    // A job with a window is counted and judged as the others are, and has its own line.
+    (b"01FFFF\n050000000001\n0300010000\n", refused(7, 3)),
+    (b"01FFFF\n050001000001\n0300010001\n", refused(5, 2)),
+    (b"01FFFF\n010000\n05000100000F\n0300020001\n", refused(6, 3)),
+    (
+        b"01FFFF\n050000000001\n0200010000\n0300010002\n",
+        refused(5, 3),
+    ),
+    (
+        b"01FFFF\n010000\n0200000000\n050001000001\n0300020002\n",
+        refused(6, 4),
+    ),
 ];

@@ -1,12 +1,13 @@
-//! What the test programs share: a second implementation of document 01, tables made from seeds,
-//! document 01's own tables, buffers with guard cells, the proved operations through their static
-//! library, a whole run by hand to measure theirs against, and pictures and pages of tables.
+//! What the test programs share: a second implementation of document 01, as document 02's requests
+//! have changed it, tables made from seeds, document 01's own tables, buffers with guard cells, the
+//! proved operations through their static library, a whole run by hand to measure theirs against, and
+//! pictures and pages of tables.
 
-pub mod bare_sheet;
 pub mod both_ends;
 pub mod browser;
 pub mod by_hand;
 pub mod examples;
+pub mod forbidden;
 pub mod lent;
 pub mod library;
 pub mod made;
@@ -19,4 +20,5 @@ pub mod reference;
 pub mod report;
 pub mod run_checks;
 pub mod well_formed;
+pub mod windows_apart;
 pub mod wrong_planners;

@@ -18,6 +18,8 @@ extern "C" {
         bottoms_length: usize,
         marks: *mut u8,
         marks_length: usize,
+        windows: *mut u8,
+        windows_length: usize,
     ) -> u64;
 
     fn harness_settle(
@@ -49,6 +51,8 @@ extern "C" {
         bottoms_length: usize,
         marks: *const u8,
         marks_length: usize,
+        windows: *const u8,
+        windows_length: usize,
         partners: *mut u16,
         partners_length: usize,
         uppers: *mut u16,
@@ -74,6 +78,7 @@ pub fn read(
     tops: &mut [u16],
     bottoms: &mut [u16],
     marks: &mut [u8],
+    windows: &mut [u8],
 ) -> Result<Counts, Refusal> {
     let answer = unsafe {
         harness_read(
@@ -87,6 +92,8 @@ pub fn read(
             bottoms.len(),
             marks.as_mut_ptr(),
             marks.len(),
+            windows.as_mut_ptr(),
+            windows.len(),
         )
     };
     let upper = (answer >> 32) as u32;
@@ -150,6 +157,8 @@ pub fn plan(
             table.bottoms.len(),
             table.marks.as_ptr(),
             table.marks.len(),
+            table.windows.as_ptr(),
+            table.windows.len(),
             partners.as_mut_ptr(),
             partners.len(),
             uppers.as_mut_ptr(),

@@ -1,6 +1,7 @@
 //! What a picture must hold, counted in the picture itself against the second implementation: each
 //! layout, job, place and pass once, each bar over the boxes of its path and no other, both ends of what
-//! a pair shares, the pairs in front of the cut, no pair on layout 0, or the line that a refusal names.
+//! a pair shares, the windows where some job is in another than window 0, the pairs in front of the cut,
+//! no pair on layout 0, or the line that a refusal names.
 
 use crate::made::tables::Size;
 use crate::made::Generator;
@@ -39,8 +40,11 @@ pub fn check_picture(picture: &str, bytes: &[u8], cut: Option<usize>, legible: b
                 table,
             };
             drawing.holds_passes(&expected)?;
+            drawing.tells_windows(&expected.table)?;
             if legible {
                 drawing.holds_tree_and_order(&expected)?;
+                drawing.tags_bars(&expected.table)?;
+                drawing.tells_columns(&expected.table)?;
                 drawing.shows_cut(&expected.table, cut)?;
             }
             drawing.dims_behind_cut(&expected, cut)
@@ -210,12 +214,13 @@ impl Drawing {
                 .ok_or(format!("no pass {number}"))?;
             same("jobs of a pass", &self.jobs_in(at), jobs)?;
             self.tells_ends(at, ends)?;
+            self.tells_words(at, ends, window_shown(table, jobs[0]))?;
             self.tells_lanes(table, at, jobs.len())?;
         }
         Ok(())
     }
 
-    /// A pair says the layout that it prints on, and the barest that does where that is another.
+    /// A pair's layouts, of which neither is layout 0.
     fn tells_ends(&self, pass: usize, ends: Ends) -> Outcome {
         let drawn = (
             self.number(pass, "data-upper"),
@@ -225,13 +230,82 @@ impl Drawing {
             return same("layouts of a single", drawn, (None, None));
         };
         same("layouts of a pair", drawn, (Some(upper), Some(printed)))?;
-        same("layout 0", upper == 0 || printed == 0, false)?;
-        let words = match upper == printed {
+        same("layout 0", upper == 0 || printed == 0, false)
+    }
+
+    /// A pair says the layout that it prints on, the barest that does where that is another, and a pass
+    /// its window where windows are shown.
+    fn tells_words(&self, pass: usize, ends: Ends, window: Option<u8>) -> Outcome {
+        let layouts = ends.map(|(upper, printed)| match upper == printed {
             true => format!("layout {printed}"),
             false => format!("layout {printed}, barest {upper}"),
-        };
-        let mut held = self.held_by(pass);
-        same(&words, held.any(|at| self.elements[at].text == words), true)
+        });
+        let window = window.map(|window| format!("window {window}"));
+        let words: Vec<String> = layouts.into_iter().chain(window).collect();
+        let held = self.held_by(pass).map(|at| &self.elements[at]);
+        let texts = held.filter(|held| held.name == "text");
+        let said: Vec<&str> = texts
+            .map(|held| held.text.as_str())
+            .filter(|text| text.contains(char::is_alphabetic))
+            .collect();
+        same("said of a pass", said.join(""), words.join(", "))
+    }
+
+    /// Each job carries its window where windows are shown, and none where they are not.
+    fn tells_windows(&self, table: &Table) -> Outcome {
+        for at in 0..self.elements.len() {
+            if let Some(job) = self.number(at, "data-job") {
+                let window = self.number(at, "data-window");
+                let expected = window_shown(table, job).map(usize::from);
+                same("window of a job", window, expected)?;
+            }
+        }
+        Ok(())
+    }
+
+    /// Each bar has a tag with its window on it where windows are shown, which touches no other, and the
+    /// legend explains it.
+    fn tags_bars(&self, table: &Table) -> Outcome {
+        let mut tags = Vec::new();
+        for at in self.of_class("job") {
+            let job = self.number(at, "data-job").ok_or("a bar without a job")?;
+            let expected = window_shown(table, job).map(|window| format!("w{window}"));
+            let mut held = self.held_by(at);
+            let tag = held.find(|&held| self.elements[held].has_class("tag"));
+            let words = tag.map(|tag| self.elements[tag].text.trim().to_string());
+            same("tag of a bar", words, expected)?;
+            if let Some(tag) = tag {
+                tags.push(self.shape(tag, "plate")?);
+            }
+        }
+        for (at, tag) in tags.iter().enumerate() {
+            let touched = tags[at + 1..].iter().filter(|other| tag.meets(**other));
+            same("tags touched", touched.count(), 0)?;
+        }
+        let explained = self.elements[0].text.contains(WINDOW_LEGEND);
+        same("windows in the legend", explained, !tags.is_empty())
+    }
+
+    /// Each place says place, path, highest layout and depth, and last its window where windows are shown.
+    fn tells_columns(&self, table: &Table) -> Outcome {
+        for at in self.of_class("place") {
+            let window = self
+                .jobs_in(at)
+                .first()
+                .and_then(|&job| window_shown(table, job));
+            let is_column = |&held: &usize| {
+                self.elements[held].name == "text" && self.elements[held].parent == Some(at)
+            };
+            let columns: Vec<usize> = self.held_by(at).filter(is_column).collect();
+            let fifth = columns.get(4).map(|&at| self.elements[at].text.clone());
+            same("columns", columns.len(), 4 + window.iter().count())?;
+            same(
+                "window of a place",
+                fifth,
+                window.map(|window| window.to_string()),
+            )?;
+        }
+        Ok(())
     }
 
     /// Each job of a pass is drawn as what it is.
@@ -391,6 +465,15 @@ impl Drawing {
         let printed = String::from_utf8_lossy(&run(bytes)).trim_end().to_string();
         same("refusal", whole.contains(&printed), true)
     }
+}
+
+/// What the legend says of the tags.
+const WINDOW_LEGEND: &str = "w1: the job is in window 1";
+
+/// The window of a job, if some job is in another than window 0.
+fn window_shown(table: &Table, job: usize) -> Option<u8> {
+    let any = table.windows.iter().any(|&window| window != 0);
+    any.then(|| table.windows[job])
 }
 
 /// The first bytes of a line: printing ones as they are, others as two digits in brackets.

@@ -1,18 +1,25 @@
 //! *Plan* beside the quadratic implementation, and its pairs beside exhaustive search at every cut
-//! (document 01, "What each operation turns away" and "Rival plans and the cut"). The planner is a
-//! parameter, so that the checks can be tried on wrong ones.
+//! (document 01, "What each operation turns away" and "Rival plans and the cut"; 2026-05, printing
+//! windows). The planner is a parameter, so that the checks can be tried on wrong ones.
 
-use crate::bare_sheet::Search;
 use crate::both_ends;
-use crate::examples::{marked, telling, Example, Pair, Passes, Said};
+use crate::examples::{in_turn, lent, marked, telling, Example, Pair, Passes, Said};
+use crate::forbidden::Search;
 use crate::lent::Lent;
-use crate::made::tables::{any_parents, path, table, table_of_size, Reach, Size};
+use crate::made::borders::borders;
+use crate::made::damage::window_beyond;
+use crate::made::tables::{
+    any_parents, path, table, table_for_search, table_of_size, tables_spread,
+};
+use crate::made::tables::{Reach, Size};
+use crate::made::windows::{any_spread, every_spread, spread, spread_solo_jobs, Spread};
 use crate::made::Generator;
 use crate::reference::plan::{plan, Plan, Results, Room, Totals};
 use crate::reference::rivals::{keeps_rules, most_before_cuts, pairs_before_cuts, pairs_of};
 use crate::reference::tree::ancestors;
-use crate::reference::{Refusal, Table, ABSENT, JOB_LIMIT, LAYOUT_LIMIT, WORK_CELLS};
+use crate::reference::{Refusal, Table, ABSENT, JOB_LIMIT, LAYOUT_LIMIT, WINDOW_LIMIT, WORK_CELLS};
 use crate::report::{same, AnswerCounts, Outcome, Report};
+use crate::windows_apart;
 
 /// *Plan*: a table, the results for partners, upper and printed layouts, the work cells.
 pub type Planner<'a> =
@@ -37,10 +44,28 @@ pub fn run(report: &mut Report, planner: Planner) {
     report.listed("tables worked by hand", examples(), |example| {
         check_example(planner, &example)
     });
+    report.listed("every number of windows", in_turn(), |example| {
+        check_example(planner, &example)
+    });
+    report.listed("every spread over windows", every_spread(), |spread| {
+        tables_spread(spread).try_for_each(|table| spread_as_planned(planner, table, spread))
+    });
+    report.listed("borders of the code", borders(), |table| {
+        planned_apart(planner, &table, &mut Generator::new(0))
+    });
+    report.listed("all jobs in each window", 0..WINDOW_LIMIT as u8, |window| {
+        (0..20).try_for_each(|seed| same_in_window(planner, window, &mut Generator::new(seed)))
+    });
     report.listed("short and long results", examples(), |example| {
         check_lengths(planner, &example)
     });
+    report.listed("columns of unequal length", examples(), |example| {
+        check_columns(planner, &example)
+    });
     report.listed("every small table", small_tables(), |table| {
+        check_at_every_cut(planner, &table, &mut Generator::new(0))
+    });
+    report.listed("every small table with windows", small_windows(), |table| {
         check_at_every_cut(planner, &table, &mut Generator::new(0))
     });
     report.made("exhaustive search at every cut", 20_000, |generator| {
@@ -51,13 +76,13 @@ pub fn run(report: &mut Report, planner: Planner) {
         Ok(())
     };
     report.made("made tables", 10_000, |generator| {
-        let mut table = table(generator);
-        vary_marks(&mut table, generator);
+        let table = vary_solo_jobs(table(generator), generator);
         counted(&table, room(&table, generator), generator)
     });
     report.made("tables at the limits", 60, |generator| {
         let table = table_of_size(limit_size(generator), generator);
-        counted(&table, exact_room(&table), generator)
+        let table = vary_solo_jobs(table, generator);
+        counted(&table, Room::exact(&table), generator)
     });
     report.made("refused tables", 20_000, |generator| {
         let table = wrong_table(generator);
@@ -67,12 +92,12 @@ pub fn run(report: &mut Report, planner: Planner) {
         let table = large_table(generator);
         counted(&table, room(&table, generator), generator)
     });
-    report.answer_counts(&answers, &[0, 3, 4, 5, 6, 8], 50);
-    report.none_on_layout_0(&search);
+    report.answer_counts(&answers, &[0, 3, 4, 5, 6, 8, 9], 50);
+    report.nothing_forbidden(&search);
 }
 
 fn examples() -> impl Iterator<Item = Example> {
-    marked().into_iter().chain(telling())
+    marked().into_iter().chain(telling()).chain(lent())
 }
 
 /// The result cells that belong to jobs.
@@ -132,7 +157,7 @@ fn holds_over(lent: &Lent<u16>, name: &str, written: &[u16]) -> Outcome {
 
 /// The pairs given back keep the rules, and no rival has more in front of any cut.
 fn check_at_every_cut(planner: Planner, table: &Table, generator: &mut Generator) -> Outcome {
-    let answer = call(planner, table, exact_room(table), generator)?;
+    let answer = call(planner, table, Room::exact(table), generator)?;
     let partners = answer.map_err(|refusal| format!("refused: {refusal:?}"))?;
     let pairs = pairs_of(&partners);
     keeps_rules(table, &pairs)?;
@@ -149,37 +174,57 @@ fn check_at_every_cut(planner: Planner, table: &Table, generator: &mut Generator
 /// A table worked by hand, against what is said of it and against the reference.
 pub fn check_example(planner: Planner, example: &Example) -> Outcome {
     let table = &example.table;
-    let room = exact_room(table);
-    let mut partners = vec![UNWRITTEN; room.partners];
-    let (mut uppers, mut printed) = (partners.clone(), partners.clone());
-    let mut work = [1; WORK_CELLS];
-    let answer = planner(table, &mut partners, &mut uppers, &mut printed, &mut work);
-    let said = match (&example.said, answer) {
-        (Said::Planned(passes), Ok(totals)) => {
-            let plan = Plan {
-                partners,
-                uppers,
-                printed,
-                totals,
-            };
-            plan == plan_said(table, passes)
-        }
-        (Said::Refused(number, place, _), Err(refusal)) => {
-            (refusal.number, refusal.place) == (*number, *place)
-        }
-        _ => false,
+    let said = match example.said {
+        Said::Planned(ref passes) => Ok(plan_said(table, passes)),
+        Said::Refused(number, place, _) => Err(Refusal { number, place }),
     };
-    if !said {
-        return Err(format!(
-            "{}: {answer:?} is not what is said of it",
-            example.name
-        ));
-    }
-    call(planner, table, room, &mut Generator::new(0)).map(|_| ())
+    same(example.name, plan_by(planner, table), said)?;
+    call(planner, table, Room::exact(table), &mut Generator::new(0)).map(|_| ())
 }
 
 /// What result cells hold before the call: no number of a job or layout, and not FFFF.
 const UNWRITTEN: u16 = 0xA5A5;
+
+/// A plan with the room that it asks for.
+pub fn plan_by(planner: Planner, table: &Table) -> Result<Plan, Refusal> {
+    let mut partners = vec![UNWRITTEN; table.jobs()];
+    let (mut uppers, mut printed) = (partners.clone(), partners.clone());
+    let mut work = [1; WORK_CELLS];
+    let totals = planner(table, &mut partners, &mut uppers, &mut printed, &mut work)?;
+    Ok(Plan {
+        partners,
+        uppers,
+        printed,
+        totals,
+    })
+}
+
+/// As it is read, with the solo jobs in window 0, and with these spread like the others.
+fn spread_as_planned(planner: Planner, mut table: Table, spread: Spread) -> Outcome {
+    let generator = &mut Generator::new(2);
+    planned_apart(planner, &table, generator)?;
+    spread_solo_jobs(&mut table, spread, generator);
+    planned_apart(planner, &table, generator)
+}
+
+/// Accepted, as the reference plans it, and with the plan that its windows apart come to.
+fn planned_apart(planner: Planner, table: &Table, generator: &mut Generator) -> Outcome {
+    let answer = call(planner, table, Room::exact(table), generator)?;
+    same("accepted", answer.is_ok(), true)?;
+    let plan = plan_by(planner, table).map_err(|refusal| format!("refused: {refusal:?}"))?;
+    windows_apart::check(table, &plan)
+}
+
+/// With all jobs in one window, whichever, the plan is that of the table without windows.
+fn same_in_window(planner: Planner, window: u8, generator: &mut Generator) -> Outcome {
+    let mut table = table(generator);
+    let plans = [window, 0].map(|window| {
+        table.windows.fill(window);
+        plan_by(planner, &table)
+    });
+    let [moved, plan] = plans;
+    same(&format!("plan in window {window}"), moved, plan)
+}
 
 /// The plan that is said of a table.
 fn plan_said(table: &Table, passes: &Passes) -> Plan {
@@ -194,7 +239,7 @@ fn plan_said(table: &Table, passes: &Passes) -> Plan {
             visits: passes.visits,
         },
     };
-    for &pair in passes.pairs {
+    for &pair in &passes.pairs {
         write_pair(&mut plan, pair);
     }
     plan
@@ -221,7 +266,7 @@ fn check_lengths(planner: Planner, example: &Example) -> Outcome {
         |room| &mut room.work,
     ];
     for length in lengths {
-        let (mut short, mut long) = (exact_room(table), exact_room(table));
+        let (mut short, mut long) = (Room::exact(table), Room::exact(table));
         *length(&mut long) += 3;
         call(planner, table, long, &mut Generator::new(0))?.ok();
         if let Some(less) = length(&mut short).checked_sub(1) {
@@ -234,13 +279,39 @@ fn check_lengths(planner: Planner, example: &Example) -> Outcome {
     Ok(())
 }
 
-fn exact_room(table: &Table) -> Room {
-    Room {
-        partners: table.jobs(),
-        uppers: table.jobs(),
-        printed: table.jobs(),
-        work: WORK_CELLS,
+/// Each of the columns of jobs alone a cell shorter or longer than the others: refused with 8, whatever
+/// else is wrong with the table.
+fn check_columns(planner: Planner, example: &Example) -> Outcome {
+    for change in COLUMN_CHANGES {
+        let mut table = example.table.clone();
+        let cells = |table: &Table| {
+            let wide = table.tops.len() + table.bottoms.len();
+            wide + table.marks.len() + table.windows.len()
+        };
+        change(&mut table);
+        if cells(&table) != cells(&example.table) {
+            let answer = call(planner, &table, Room::exact(&table), &mut Generator::new(0))?;
+            let refusal = answer.err().map(|refusal| (refusal.number, refusal.place));
+            same(example.name, refusal, Some((8, 0)))?;
+        }
     }
+    Ok(())
+}
+
+/// One column of jobs a cell shorter, as far as it has cells, or longer.
+const COLUMN_CHANGES: [fn(&mut Table); 8] = [
+    |table| shorten(&mut table.tops),
+    |table| shorten(&mut table.bottoms),
+    |table| shorten(&mut table.marks),
+    |table| shorten(&mut table.windows),
+    |table| table.tops.push(0),
+    |table| table.bottoms.push(0),
+    |table| table.marks.push(0),
+    |table| table.windows.push(0),
+];
+
+fn shorten<T>(cells: &mut Vec<T>) {
+    cells.truncate(cells.len().saturating_sub(1));
 }
 
 /// Mostly the room asked for or more; now and then too little of one.
@@ -260,15 +331,6 @@ fn near(length: usize, generator: &mut Generator) -> usize {
         2..=15 => length + generator.between(1, 40),
         _ => length,
     }
-}
-
-/// At most eight jobs, so that every rival can be tried.
-fn table_for_search(generator: &mut Generator) -> Table {
-    let size = Size {
-        layouts: generator.between(1, 9),
-        jobs: generator.between(2, 8),
-    };
-    table_of_size(size, generator)
 }
 
 fn limit_size(generator: &mut Generator) -> Size {
@@ -297,12 +359,13 @@ fn wrong_table(generator: &mut Generator) -> Table {
 fn make_wrong(table: &mut Table, generator: &mut Generator) {
     let number = generator.between(0, 14) as u16;
     let number = generator.choice(&[number, number, number, ABSENT, 0x0100, LAYOUT_LIMIT as u16]);
-    let cells = match generator.below(8) {
+    let cells = match generator.below(10) {
         0 | 1 => &mut table.parents,
         2 | 3 => &mut table.tops,
         4 | 5 => &mut table.bottoms,
         6 => return shorten_or_lengthen(table, generator),
-        _ => return mark_any(table, generator),
+        7 => return set_any(&mut table.marks, generator.bits() as u8, generator),
+        _ => return set_any(&mut table.windows, window_beyond(generator), generator),
     };
     if !cells.is_empty() {
         let at = generator.below(cells.len());
@@ -311,28 +374,26 @@ fn make_wrong(table: &mut Table, generator: &mut Generator) {
 }
 
 fn shorten_or_lengthen(table: &mut Table, generator: &mut Generator) {
-    match generator.below(6) {
-        0 => drop(table.tops.pop()),
-        1 => drop(table.bottoms.pop()),
-        2 => drop(table.marks.pop()),
-        3 => table.tops.push(0),
-        4 => table.bottoms.push(0),
-        _ => table.parents.clear(),
+    if generator.one_in(8) {
+        return table.parents.clear();
+    }
+    generator.choice(&COLUMN_CHANGES)(table);
+}
+
+fn set_any(cells: &mut [u8], value: u8, generator: &mut Generator) {
+    if !cells.is_empty() {
+        cells[generator.below(cells.len())] = value;
     }
 }
 
-fn mark_any(table: &mut Table, generator: &mut Generator) {
-    if !table.marks.is_empty() {
-        let at = generator.below(table.marks.len());
-        table.marks[at] = generator.bits() as u8;
-    }
-}
-
-/// A mark other than 0 counts as solo, whichever it is.
-fn vary_marks(table: &mut Table, generator: &mut Generator) {
+/// A mark other than 0 counts as solo, whichever it is, and a solo job may be in any window.
+fn vary_solo_jobs(mut table: Table, generator: &mut Generator) -> Table {
     for mark in table.marks.iter_mut().filter(|mark| **mark != 0) {
         *mark = generator.choice(&[1, 2, 0x80, 0xFF]);
     }
+    let windows = any_spread(generator);
+    spread_solo_jobs(&mut table, windows, generator);
+    table
 }
 
 /// A table over one limit or both, or just at it, with a wrong number now and then.
@@ -349,6 +410,8 @@ fn large_table(generator: &mut Generator) -> Table {
         let (top, bottom) = path(&table.parents, Reach::Short, generator);
         table.add_job(top, bottom, 0);
     }
+    let windows = any_spread(generator);
+    spread(&mut table, windows, generator);
     if generator.one_in(3) {
         make_wrong(&mut table, generator);
     }
@@ -357,15 +420,26 @@ fn large_table(generator: &mut Generator) -> Table {
 
 /// Every table of at most four layouts and three jobs, solo or not.
 pub fn small_tables() -> Vec<Table> {
+    tables_of(4, &[(0, 0), (0, 1)])
+}
+
+/// Every table of at most three layouts and three jobs, solo or not, in two windows, but for those with
+/// all jobs in window 0.
+pub fn small_windows() -> Vec<Table> {
+    let mut tables = tables_of(3, &[(0, 0), (0, 1), (5, 0), (5, 1)]);
+    tables.retain(|table| table.windows.contains(&5));
+    tables
+}
+
+/// Every table of at most so many layouts and three jobs, each with one of these windows and marks.
+fn tables_of(layouts: u16, kinds: &[(u8, u8)]) -> Vec<Table> {
     let mut tables = Vec::new();
-    for layouts in 1..=4 {
-        for parents in parent_lists(layouts) {
-            let table = Table {
-                parents,
-                ..Table::default()
-            };
-            add_jobs(&table, 3, &mut tables);
-        }
+    for parents in (1..=layouts).flat_map(parent_lists) {
+        let table = Table {
+            parents,
+            ..Table::default()
+        };
+        add_jobs(&table, 3, kinds, &mut tables);
     }
     tables
 }
@@ -382,17 +456,17 @@ fn parent_lists(layouts: u16) -> Vec<Vec<u16>> {
 }
 
 /// The table itself, and with up to `jobs` jobs more of every kind.
-fn add_jobs(table: &Table, jobs: usize, tables: &mut Vec<Table>) {
+fn add_jobs(table: &Table, jobs: usize, kinds: &[(u8, u8)], tables: &mut Vec<Table>) {
     tables.push(table.clone());
     if jobs == 0 {
         return;
     }
     for bottom in 0..table.layouts() as u16 {
         for top in ancestors(&table.parents, bottom) {
-            for mark in [0, 1] {
+            for &(window, mark) in kinds {
                 let mut more = table.clone();
-                more.add_job(top, bottom, mark);
-                add_jobs(&more, jobs - 1, tables);
+                more.add_job_in(window, top, bottom, mark);
+                add_jobs(&more, jobs - 1, kinds, tables);
             }
         }
     }

@@ -5,7 +5,7 @@
 //! With a group and a seed as arguments a program runs that one case again. FIRST_SEED in the
 //! environment moves the seeds of all groups.
 
-use crate::bare_sheet::Search;
+use crate::forbidden::Search;
 use crate::made::Generator;
 use crate::reference::Refusal;
 use std::env;
@@ -28,7 +28,7 @@ pub fn same<T: PartialEq + Debug>(name: &str, found: T, expected: T) -> Outcome 
 /// How often each answer came, by the number of the refusal; 0 for none.
 #[derive(Default)]
 pub struct AnswerCounts {
-    counts: [u64; 9],
+    counts: [u64; 10],
 }
 
 impl AnswerCounts {
@@ -116,7 +116,7 @@ impl Report {
         }
         let counts = answers.counts;
         println!(
-            "{}: no refusal, and refusals 1 to 8: {counts:?}",
+            "{}: no refusal, and refusals 1 to 9: {counts:?}",
             self.program
         );
         if numbers.iter().any(|&number| counts[number] < least) {
@@ -127,21 +127,28 @@ impl Report {
         }
     }
 
-    /// That no plan searched has layout 0 at an end of what a pair shares, and that there were jobs to be
-    /// wrongly paired on it.
-    pub fn none_on_layout_0(&mut self, search: &Search) {
+    /// That no plan searched has layout 0 at an end of what a pair shares, or a pair of two windows, and
+    /// that there were jobs to be wrongly paired, in every number of windows.
+    pub fn nothing_forbidden(&mut self, search: &Search) {
         if self.only.is_some() {
             return;
         }
         let seen = search.seen();
         println!(
-            "{}: a plan that prints on layout 0: searched {} plans with {} pairs; {} jobs have top 0, {} are 0-0, {} solo",
+            "{}: a pair on layout 0 or of two windows: searched plans with 0 to 16 windows, {:?}, with {} pairs; {} jobs have top 0, {} are 0-0, {} solo",
             self.program, seen.plans, seen.pairs, seen.tops_0, seen.bare_jobs, seen.solo_jobs
         );
-        if let Some(found) = seen.found {
-            self.fail("a plan that prints on layout 0", &found);
-        } else if [seen.pairs, seen.tops_0, seen.bare_jobs, seen.solo_jobs].contains(&0) {
-            self.fail("a plan that prints on layout 0", "nothing to be found");
+        for (group, found) in [
+            ("a pair on layout 0", &seen.on_layout_0),
+            ("a pair of two windows", &seen.across_windows),
+        ] {
+            if let Some(words) = found {
+                self.fail(group, words);
+            }
+        }
+        let counts = [seen.pairs, seen.tops_0, seen.bare_jobs, seen.solo_jobs];
+        if counts.contains(&0) || seen.plans.contains(&0) {
+            self.fail("pairs that no plan may have", "nothing to be found");
         }
     }
 

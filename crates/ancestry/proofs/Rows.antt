@@ -1,4 +1,4 @@
--- Laws of the sparse table: rows with windows shorter than a row have room, each is made of the one before, and two windows cover a span.
+-- Laws of the sparse table: rows with blocks shorter than a row have room, each is made of the one before, and two blocks cover a span.
 use Prim.Native.Nat.{ℕ, zero, suc, _+_, _-_, _*_, _/_, _%_, _^_, _≤_, _<_, min}
 use mathlib.Core.Path.{_≡_, refl, sym, ap, _∙_}
 use mathlib.Core.List.{List}
@@ -16,34 +16,34 @@ use Rattle.laws.specs.Least.{leastOf, least-none, least-one, least-more, least-
 use Rattle.tree_laws.specs.Ancestors.{ancestor-root}
 use Rattle.tree_laws.specs.Spans.{first-le-last, nested}
 use Rattle.settle.specs.Spanned.{firstCells, Spanned}
-use Rattle.ancestry.specs.SparseTable.{parentFrom, parentBelow, smallestParent, strideOf, window, Roomy, Right, RowsTo, RowSet, Minima, Searchable}
+use Rattle.ancestry.specs.SparseTable.{parentFrom, parentBelow, smallestParent, strideOf, block, Roomy, Right, RowsTo, RowSet, Minima, Searchable}
 use Rattle.ancestry.specs.Room.{stride-small}
 
--- ---- windows
+-- ---- blocks
 
-window-one : (e : ℕ) → window (suc e) ≡ 2 ^ e
-window-one e = let p : 2 ^ suc e ≡ 2 ^ e * 2 = pow-suc 2 e in omega arith
+block-one : (e : ℕ) → block (suc e) ≡ 2 ^ e
+block-one e = let p : 2 ^ suc e ≡ 2 ^ e * 2 = pow-suc 2 e in omega arith
 
 -- each is twice as long as the one before
-pub window-next : (m : ℕ) → 1 ≤ m → window (suc m) ≡ window m + window m
-window-next zero h = absurd (omega arith)
-window-next (suc e) h = let p : 2 ^ suc e ≡ 2 ^ e * 2 = pow-suc 2 e in omega (arith, window-one e, window-one (suc e))
+pub block-next : (m : ℕ) → 1 ≤ m → block (suc m) ≡ block m + block m
+block-next zero h = absurd (omega arith)
+block-next (suc e) h = let p : 2 ^ suc e ≡ 2 ^ e * 2 = pow-suc 2 e in omega (arith, block-one e, block-one (suc e))
 
-pub window-mono : (m n : ℕ) → m ≤ n → window m ≤ window n
-window-mono m n h = let p : 2 ^ m ≤ 2 ^ n = pow-mono h in omega arith
+pub block-mono : (m n : ℕ) → m ≤ n → block m ≤ block n
+block-mono m n h = let p : 2 ^ m ≤ 2 ^ n = pow-mono h in omega arith
 
 -- ---- room
 
 module _ (ps cells : List ℕ) (r : Roomy ps cells) where
-  -- a window shorter than a row is one of a row that there is room for
-  level-of : (n : ℕ) → window n < strideOf ps → n ≤ r .levels
+  -- a block shorter than a row is one of a row that there is room for
+  level-of : (n : ℕ) → block n < strideOf ps → n ≤ r .levels
   level-of n short = elim (decLe n (r .levels)) [
     | yes h ↦ h
-    | no h ↦ absurd (omega (arith, window-mono (suc (r .levels)) n (omega arith), window-one (r .levels), r .wide))
+    | no h ↦ absurd (omega (arith, block-mono (suc (r .levels)) n (omega arith), block-one (r .levels), r .wide))
   ]
 
   -- the row ends inside
-  pub row-room : (n : ℕ) → window n < strideOf ps → n * strideOf ps + strideOf ps ≤ length cells
+  pub row-room : (n : ℕ) → block n < strideOf ps → n * strideOf ps + strideOf ps ≤ length cells
   row-room n short =
       let b : suc n * strideOf ps ≤ suc (r .levels) * strideOf ps = mul-le-mul-right (strideOf ps) (omega (arith, level-of n short)) in
       omega (arith, b, suc-mul n (strideOf ps), r .room)
@@ -114,7 +114,7 @@ module _ (ps : List ℕ) where
       whole : x ≡ length ps
       whole = omega (arith, p .within)
 
-      rows : (n k : ℕ) → n ≤ 1 → k + window n < strideOf ps → Right ps cells n k
+      rows : (n k : ℕ) → n ≤ 1 → k + block n < strideOf ps → Right ps cells n k
       rows zero k h short = let z : 0 * strideOf ps + k ≡ k = omega (arith, zero-mul (strideOf ps)) in rw z (p .none k (omega arith) ∙ sym (least-none (smallestParent ps) k))
       rows (suc zero) k h short =
           let o : 1 * strideOf ps + k ≡ strideOf ps + k = omega (arith, one-mul (strideOf ps)) in
@@ -141,27 +141,27 @@ row-more at stride half k v old new room short is r =
 pub row-all : (at stride half k : ℕ) (old new : List ℕ) → stride ≤ k + (half + half) → RowSet at stride half k old new → RowSet at stride half (stride - (half + half)) old new
 row-all at stride half k old new end r = record { kept = r .kept; before = r .before; set-to = λ j h. r .set-to j (omega arith) }
 
--- the rows so far, the last of which begins at `at`, with windows as long as `half`
+-- the rows so far, the last of which begins at `at`, with blocks as long as `half`
 pub record Rows (ps : List ℕ) (at half m : ℕ) (cells : List ℕ) : Type 0 where
   pub rows : RowsTo ps m cells
   pub some : 1 ≤ m
   pub at-is : at ≡ m * strideOf ps
-  pub half-is : half ≡ window m
+  pub half-is : half ≡ block m
 
 module _ (ps : List ℕ) (at half m : ℕ) (cells : List ℕ) (r : Rows ps at half m cells) where
-  -- there is room for one more with windows shorter than a row
+  -- there is room for one more with blocks shorter than a row
   pub next-room : half + half < strideOf ps → at + strideOf ps + strideOf ps ≤ length cells
-  next-room short = omega (arith, r .at-is, suc-mul m (strideOf ps), row-room ps cells (r .rows .roomy) (suc m) (omega (arith, window-next m (r .some), r .half-is)))
+  next-room short = omega (arith, r .at-is, suc-mul m (strideOf ps), row-room ps cells (r .rows .roomy) (suc m) (omega (arith, block-next m (r .some), r .half-is)))
 
-  next-row : (new : List ℕ) → RowSet at (strideOf ps) half (strideOf ps - (half + half)) cells new → (n k : ℕ) → n ≤ suc m → k + window n < strideOf ps → Right ps new n k
+  next-row : (new : List ℕ) → RowSet at (strideOf ps) half (strideOf ps - (half + half)) cells new → (n k : ℕ) → n ≤ suc m → k + block n < strideOf ps → Right ps new n k
   next-row new s n k h short = elim (ℕ-discrete n (suc m)) [
     | yes last ↦
-        let w : window (suc m) ≡ half + half = omega (arith, window-next m (r .some), r .half-is) in
-        let short′ : k + window (suc m) < strideOf ps = rw last at short in
+        let w : block (suc m) ≡ half + half = omega (arith, block-next m (r .some), r .half-is) in
+        let short′ : k + block (suc m) < strideOf ps = rw last at short in
         let here : suc m * strideOf ps + k ≡ at + strideOf ps + k = omega (arith, suc-mul m (strideOf ps), r .at-is) in
         let left : getD cells (at + k) 0 ≡ leastOf (smallestParent ps) k half = rw (r .at-is, r .half-is) (r .rows .row m k (omega arith) (omega (arith, r .half-is))) in
         let shifted : at + k + half ≡ at + (k + half) = omega arith in
-        let right : getD cells (at + k + half) 0 ≡ leastOf (smallestParent ps) (k + half) half = rw shifted (rw (r .at-is, r .half-is) (r .rows .row m (k + window m) (omega arith) (omega (arith, r .half-is)))) in
+        let right : getD cells (at + k + half) 0 ≡ leastOf (smallestParent ps) (k + half) half = rw shifted (rw (r .at-is, r .half-is) (r .rows .row m (k + block m) (omega arith) (omega (arith, r .half-is)))) in
         rw last (rw (here, w) (s .set-to k (omega arith) ∙ rw (left, right) (sym (least-append (smallestParent ps) k half half))))
     | no former ↦
         let b : n * strideOf ps ≤ m * strideOf ps = mul-le-mul-right (strideOf ps) (omega arith) in
@@ -174,23 +174,23 @@ module _ (ps : List ℕ) (at half m : ℕ) (cells : List ℕ) (r : Rows ps at ha
         rows = record { roomy = roomy-same ps cells new (s .kept) (r .rows .roomy); row = next-row new s };
         some = omega arith;
         at-is = omega (arith, suc-mul m (strideOf ps), r .at-is);
-        half-is = omega (arith, window-next m (r .some), r .half-is);
+        half-is = omega (arith, block-next m (r .some), r .half-is);
       }
 
-  -- longer windows than a row has cells are in no row
+  -- longer blocks than a row has cells are in no row
   pub rows-all : strideOf ps ≤ half + half → Minima ps cells
   rows-all end = record { roomy = r .rows .roomy; row = λ n k short. r .rows .row n k (at-most n k short) short }
     where
-      at-most : (n k : ℕ) → k + window n < strideOf ps → n ≤ m
+      at-most : (n k : ℕ) → k + block n < strideOf ps → n ≤ m
       at-most n k short = elim (decLe n m) [
         | yes h ↦ h
-        | no h ↦ absurd (omega (arith, window-mono (suc m) n (omega arith), window-next m (r .some), r .half-is))
+        | no h ↦ absurd (omega (arith, block-mono (suc m) n (omega arith), block-next m (r .some), r .half-is))
       ]
 
 pub rows-first : (ps cells : List ℕ) → RowsTo ps 1 cells → Rows ps (strideOf ps) 1 1 cells
 rows-first ps cells r = record { rows = r; some = omega arith; at-is = sym (one-mul (strideOf ps)); half-is = refl }
 
--- ---- two windows cover a span
+-- ---- two blocks cover a span
 
 -- as many bits as a number has
 bits-cover : (n : ℕ) → n < 2 ^ 64 → (n < 2 ^ (64 - leadingZeros 64 n)) × (2 ^ (64 - leadingZeros 64 n) ≤ 2 * n + 1)
@@ -213,17 +213,17 @@ module _ (ps tree cells : List ℕ) (q : Searchable ps tree cells) (from to : �
   ]
 
   -- the machine's shift
-  pub window-is : 1 * 2 ^ bits % 2 ^ 64 / 2 ≡ window bits
-  window-is = ap (λ (n : ℕ). n / 2) (shl-exact {a = 1} 1 bits 64 (lit< tt) (omega (arith, bits-small)) ∙ one-mul (2 ^ bits))
+  pub block-is : 1 * 2 ^ bits % 2 ^ 64 / 2 ≡ block bits
+  block-is = ap (λ (n : ℕ). n / 2) (shl-exact {a = 1} 1 bits 64 (lit< tt) (omega (arith, bits-small)) ∙ one-mul (2 ^ bits))
 
-  pub window-fits : window bits ≤ to - from
-  window-fits = omega (arith, covers .1)
+  pub block-fits : block bits ≤ to - from
+  block-fits = omega (arith, covers .1)
 
   pub row-fits : bits * strideOf ps + strideOf ps ≤ length cells
-  row-fits = row-room ps cells (q .rows .roomy) bits (omega (arith, window-fits))
+  row-fits = row-room ps cells (q .rows .roomy) bits (omega (arith, block-fits))
 
-  pub two-windows : min (getD cells (bits * strideOf ps + from) 0) (getD cells (bits * strideOf ps + to - window bits) 0) ≡ leastOf (smallestParent ps) from (to - from)
-  two-windows =
-      let there : bits * strideOf ps + to - window bits ≡ bits * strideOf ps + (to - window bits) = omega (arith, window-fits) in
-      let end : from + (to - from) - window bits ≡ to - window bits = omega arith in
-      rw (there, q .rows .row bits from (omega (arith, window-fits)), q .rows .row bits (to - window bits) (omega (arith, window-fits)), ← end) (least-cover (smallestParent ps) from (to - from) (window bits) window-fits (omega (arith, covers .0)))
+  pub two-blocks : min (getD cells (bits * strideOf ps + from) 0) (getD cells (bits * strideOf ps + to - block bits) 0) ≡ leastOf (smallestParent ps) from (to - from)
+  two-blocks =
+      let there : bits * strideOf ps + to - block bits ≡ bits * strideOf ps + (to - block bits) = omega (arith, block-fits) in
+      let end : from + (to - from) - block bits ≡ to - block bits = omega arith in
+      rw (there, q .rows .row bits from (omega (arith, block-fits)), q .rows .row bits (to - block bits) (omega (arith, block-fits)), ← end) (least-cover (smallestParent ps) from (to - from) (block bits) block-fits (omega (arith, covers .0)))

@@ -27,10 +27,10 @@ abbrev pub strideOf : List ℕ → ℕ
 strideOf ps = lastLeaf ps 0 + 2
 
 -- how many leaves a minimum of row m is of
-abbrev pub window : ℕ → ℕ
-window m = 2 ^ m / 2
+abbrev pub block : ℕ → ℕ
+block m = 2 ^ m / 2
 
--- room for the rows whose windows are shorter than a row
+-- room for the rows whose blocks are shorter than a row
 pub record Roomy (ps cells : List ℕ) : Type 0 where
   pub levels : ℕ
   pub wide : strideOf ps ≤ 2 ^ levels
@@ -38,17 +38,17 @@ pub record Roomy (ps cells : List ℕ) : Type 0 where
 
 -- the cell of row n at k is right
 abbrev pub Right : List ℕ → List ℕ → ℕ → ℕ → Type 0
-Right ps cells n k = getD cells (n * strideOf ps + k) 0 ≡ leastOf (smallestParent ps) k (window n)
+Right ps cells n k = getD cells (n * strideOf ps + k) 0 ≡ leastOf (smallestParent ps) k (block n)
 
 -- the rows up to row m
 pub record RowsTo (ps : List ℕ) (m : ℕ) (cells : List ℕ) : Type 0 where
   pub roomy : Roomy ps cells
-  pub row : (n k : ℕ) → n ≤ m → k + window n < strideOf ps → Right ps cells n k
+  pub row : (n k : ℕ) → n ≤ m → k + block n < strideOf ps → Right ps cells n k
 
 -- all rows
 pub record Minima (ps cells : List ℕ) : Type 0 where
   pub roomy : Roomy ps cells
-  pub row : (n k : ℕ) → k + window n < strideOf ps → Right ps cells n k
+  pub row : (n k : ℕ) → k + block n < strideOf ps → Right ps cells n k
 
 -- the first n cells after the row at `at` have the smaller of two of its cells, `half` apart; those in front are untouched
 pub record RowSet (at stride half n : ℕ) (old new : List ℕ) : Type 0 where

@@ -91,7 +91,7 @@ pub fn set_minima(parents: &[u16], tree: &[u16; TREE], minima: &mut [u16])
     }
 }
 
-// The smallest parent of the layouts whose first leaf lies from `from` up to `to`: these leaves are covered by two windows as long as the largest power of two
+// The smallest parent of the layouts whose first leaf lies from `from` up to `to`: these leaves are covered by two blocks as long as the largest power of two
 // among their number. Of no leaves it is FFFF, which row 0 holds.
 fn smallest_parent(tree: &[u16; TREE], minima: &[u16], from: usize, to: usize) -> LayoutNumber
     requires { ⌜ ((ps : List ℕ) × Searchable ps (now tree) (now minima) × (from ≤ to) × (to < strideOf ps)) ⌝ }
@@ -99,9 +99,9 @@ fn smallest_parent(tree: &[u16; TREE], minima: &[u16], from: usize, to: usize) -
 {
     let bits = 64 - usize::leading_zeros(to - from) as usize;
     let row = bits * stride_of(tree);
-    let window = (1usize << bits) / 2;
+    let block = (1usize << bits) / 2;
     let left = LayoutNumber(minima[row + from]);
-    let right = LayoutNumber(minima[row + to - window]);
+    let right = LayoutNumber(minima[row + to - block]);
     smaller(left, right)
 }
 

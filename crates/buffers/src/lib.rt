@@ -21,13 +21,13 @@ pub fn fill(cells: &mut [u16], value: u16)
     }
 }
 
-// No mark in any cell.
-pub fn clear_marks(marks: &mut [u8])
-    ensures { λ r. ⌜ now (marks .exit) ≡ replicate (length (now (marks .entry))) 0 ⌝ }
+// 0 in every byte.
+pub fn clear_bytes(bytes: &mut [u8])
+    ensures { λ r. ⌜ now (bytes .exit) ≡ replicate (length (now (bytes .entry))) 0 ⌝ }
 {
     let mut i = 0;
-    while i < marks.len() {
-        marks[i] = 0;
+    while i < bytes.len() {
+        bytes[i] = 0;
         i += 1;
     }
 }

@@ -1,13 +1,14 @@
 -- Laws of digits in the shapes that the code asks: one byte, the four digits of a field, the two of a kind.
-use Prim.Native.Nat.{ℕ, _+_, _-_, _*_, _<_, _≤_}
+use Prim.Native.Nat.{ℕ, suc, _+_, _-_, _*_, _<_, _≤_}
 use mathlib.Core.Path.{_≡_, refl, sym, _∙_}
 use mathlib.Core.Logic.{_⊎_, inl, inr, ⊎-elim, _≢_}
 use mathlib.Core.Bool.{Bool, true, false, cond, _&&_, true≢false, and-true, and-false, or-false, and-eq-true-iff}
 use mathlib.Core.List.{List, [], _∷_}
 use native.Mathlib.Omega.{arith}
-use native.Mathlib.Nat.{add-zero}
-use lib.ListN.{length, getD, set, take, drop, replicate, length-drop, length-set, length-replicate, getD-replicate}
-use lib.Seq.{getD-drop, getD-set-same, getD-set-other}
+use native.Mathlib.Nat.{add-assoc}
+use native.Mathlib.Numerals.{add-one}
+use lib.ListN.{length, getD, set, take, drop, replicate, length-set, length-replicate, getD-replicate}
+use lib.Seq.{drop-cons, getD-set-same, getD-set-other}
 use lib.Dec.{eqb, ltb, leb}
 use borrow.Author.Tests.{ne-eqb, eqb-true, eqb-false, eq-eqb, ltb-true, leb-true, leb-false, le-leb, lt-leb, lt-ltb, le-ltb}
 use Rattle.model.specs.Lists.{allOf}
@@ -139,19 +140,17 @@ read-small b = go (isDigit b) refl
 
 -- ---- a field
 
-four-front : (l : List ℕ) → 4 ≤ length l → take 4 l ≡ getD l 0 0 ∷ getD l 1 0 ∷ getD l 2 0 ∷ getD l 3 0 ∷ []
-four-front [] h = absurd (omega arith)
-four-front (a ∷ []) h = absurd (omega arith)
-four-front (a ∷ b ∷ []) h = absurd (omega arith)
-four-front (a ∷ b ∷ c ∷ []) h = absurd (omega arith)
-four-front (a ∷ b ∷ c ∷ d ∷ l) h = refl
+-- the n digits at `at` begin with the byte there
+digits-at : (s : List ℕ) (at n : ℕ) → at < length s → take (suc n) (drop at s) ≡ getD s at 0 ∷ take n (drop (at + 1) s)
+digits-at s at n h = rw (drop-cons s at 0, add-one)
+
+two-at : (s : List ℕ) (at : ℕ) → at + 2 ≤ length s → take 2 (drop at s) ≡ getD s at 0 ∷ getD s (at + 1) 0 ∷ []
+two-at s at h = rw (digits-at s at 1 (omega arith), digits-at s (at + 1) 0 (omega arith))
 
 four-at : (s : List ℕ) (at : ℕ) → at + 4 ≤ length s
     → take 4 (drop at s) ≡ getD s at 0 ∷ getD s (at + 1) 0 ∷ getD s (at + 2) 0 ∷ getD s (at + 3) 0 ∷ []
 four-at s at h =
-    let inside : 4 ≤ length (drop at s) = rw length-drop (omega arith) in
-    four-front (drop at s) inside
-    ∙ rw (getD-drop at s 0 0, getD-drop at s 1 0, getD-drop at s 2 0, getD-drop at s 3 0, add-zero)
+    rw (digits-at s at 3 (omega arith), digits-at s (at + 1) 2 (omega arith), add-assoc, two-at s (at + 2) (omega arith), add-assoc)
 
 -- four numbers, added up by their places
 abbrev pub places : ℕ → ℕ → ℕ → ℕ → ℕ
@@ -175,12 +174,32 @@ tells a b c d true true true true e f g h =
     omega (arith, lt-ltb, below-16 a e, below-16 b f, below-16 c g, below-16 d h)
 
 pub field-read : (s : List ℕ) (at : ℕ) → at + 4 ≤ length s
-    → FieldRead s at
+    → FieldRead 4 s at
     (places (digitRead (getD s at 0)) (digitRead (getD s (at + 1) 0)) (digitRead (getD s (at + 2) 0)) (digitRead (getD s (at + 3) 0)))
 unfolding allOf
 field-read s at h =
     let t = tells (getD s at 0) (getD s (at + 1) 0) (getD s (at + 2) 0) (getD s (at + 3) 0) _ _ _ _ refl refl refl refl in
     record { tells = rw (four-at s at h) (t .0); value = rw (four-at s at h) (t .1) }
+
+-- the same of two bytes
+module _ (a b : ℕ) (p q : Bool) where
+  abbrev counted-two : ℕ
+  counted-two = cond p (digitValue a) 65536 * 16 + cond q (digitValue b) 65536
+
+  abbrev TellsTwo : Type 0
+  TellsTwo = (ltb counted-two 256 ≡ (p && (q && true))) × (counted-two < 256 → counted-two ≡ numberAfter 0 (a ∷ b ∷ []))
+
+tells-two : (a b : ℕ) (p q : Bool) → isDigit a ≡ p → isDigit b ≡ q → TellsTwo a b p q
+unfolding numberAfter
+tells-two a b false q e f = omega (arith, le-ltb)
+tells-two a b true false e f = omega (arith, le-ltb)
+tells-two a b true true e f = omega (arith, lt-ltb, below-16 a e, below-16 b f)
+
+pub window-read : (s : List ℕ) (at : ℕ) → at + 2 ≤ length s → FieldRead 2 s at (digitRead (getD s at 0) * 16 + digitRead (getD s (at + 1) 0))
+unfolding allOf
+window-read s at h =
+    let t = tells-two (getD s at 0) (getD s (at + 1) 0) _ _ refl refl in
+    record { tells = rw (two-at s at h) (t .0); value = rw (two-at s at h) (t .1) }
 
 -- ---- the kind
 

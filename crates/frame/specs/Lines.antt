@@ -1,8 +1,7 @@
--- What the bytes at fixed positions tell of the first line: n digits and then 0A are a line, and where neither 6 nor 10 digits stand
--- before a 0A, the first line is no frame, however long it is.
+-- What the bytes at fixed positions tell of the first line: n digits and then 0A are a line, and where neither 6 nor 10 nor 12 digits
+-- stand before a 0A, the first line is no frame, however long it is.
 use Prim.Native.Nat.{ℕ, zero, suc, _+_, _-_, _<_, _≤_}
 use mathlib.Core.Path.{_≡_, refl, sym, ap, subst, _∙_}
-use mathlib.Core.Logic.{_⊎_, inl, inr, ⊎-elim}
 use mathlib.Core.Bool.{Bool, true, false, cond, _||_, _&&_, true≢false, and-true, and-false, and-eq-true-iff}
 use mathlib.Core.Option.{Option, none, some}
 use mathlib.Core.List.{List, [], _∷_}
@@ -13,12 +12,11 @@ use lib.Seq.{take-nil, take-take, take-all, length-take-le}
 use lib.Dec.{eqb, leb}
 use borrow.Author.Tests.{eqb-true, eq-eqb, ne-eqb}
 use Rattle.model.specs.Lists.{allOf}
-use Rattle.model.specs.Table.{isDigit, numberAfter, kindOf, fieldAt, Line, terminated, unterminated, lead, lines, firstOf, firstLine, layoutFrame, jobFrame, soloFrame, endFrame, frameOfKind, frameOf}
+use Rattle.model.specs.Table.{isDigit, numberAfter, kindOf, fieldAt, windowAt, Line, terminated, unterminated, lead, lines, firstOf, firstLine, layoutFrame, jobFrame, soloFrame, windowFrame, endFrame, frameOfKind, frameOf, beyondWindows}
 use Rattle.model.specs.Answers.{frameCase, found, refusal, frameAnswer, lineAnswer}
 use Rattle.model.specs.declared.Frame.{Frame}
-use Rattle.model.specs.declared.Refusal.{Refusal}
 use Rattle.model.specs.declared.FrameRead.{FrameRead}
-use Rattle.model.specs.declared.FrameRead.the-variants.{Read, Refused}
+use Rattle.model.specs.declared.FrameRead.the-variants.{Read}
 use Rattle.model.specs.Table as Table
 use Rattle.frame.specs.Fields.{endsAfter}
 
@@ -27,11 +25,16 @@ abbrev pub width : Table.Frame → ℕ
 width (layoutFrame p) = 7
 width (jobFrame t b) = 11
 width (soloFrame t b) = 11
+width (windowFrame t b v) = 13
 width (endFrame n m) = 11
 
 -- n digits and then byte 0A stand at the front
 unfoldable pub digitLine : ℕ → List ℕ → Bool
 digitLine n s = allOf isDigit (take n s) && eqb (getD s n 0) 10
+
+-- 12 digits of kind 05 and then byte 0A
+abbrev pub windowedLine : List ℕ → Bool
+windowedLine s = digitLine 12 s && eqb (kindOf s) 5
 
 -- a part to the end is what is left
 pub rest : (s : List ℕ) (at : ℕ) → take (length s - at) (drop at s) ≡ drop at s
@@ -104,9 +107,9 @@ drop-take zero m l = rw zero-add
 drop-take (suc k) m [] = rw suc-add (sym (take-nil m))
 drop-take (suc k) m (x ∷ xs) = rw suc-add (drop-take k m xs)
 
--- a field of the first digits is that field of the bytes
-field-of-take : (k m : ℕ) (s : List ℕ) → 4 ≤ m → fieldAt k (take (k + m) s) ≡ fieldAt k s
-field-of-take k m s h = ap (numberAfter 0) (ap (take 4) (drop-take k m s) ∙ take-take 4 m (drop k s) h)
+-- a number among the first digits is that number of the bytes
+number-of-take : (n k m : ℕ) (s : List ℕ) → n ≤ m → numberAfter 0 (take n (drop k (take (k + m) s))) ≡ numberAfter 0 (take n (drop k s))
+number-of-take n k m s h = ap (numberAfter 0) (ap (take n) (drop-take k m s) ∙ take-take n m (drop k s) h)
 
 kind-of-take : (n : ℕ) (s : List ℕ) → 2 ≤ n → kindOf (take n s) ≡ kindOf s
 kind-of-take n s h = ap (numberAfter 0) (take-take 2 n s h)
@@ -125,14 +128,39 @@ ten-digits : (l : List ℕ) → length l ≡ 10 → frameOfKind l ≡ longFrame 
 unfolding frameOfKind
 ten-digits l e = rw e (simp (and-true, and-false))
 
-other-digits : (l : List ℕ) → (length l ≡ 6 → ⊥) → (length l ≡ 10 → ⊥) → frameOfKind l ≡ none
+twelve-digits : (l : List ℕ) → length l ≡ 12 → frameOfKind l ≡ cond (eqb (kindOf l) 5) (some (windowFrame (fieldAt 2 l) (fieldAt 6 l) (windowAt 10 l))) none
 unfolding frameOfKind
-other-digits l h k = rw (ne-eqb (length l) 6 h, ne-eqb (length l) 10 k) (simp and-false)
+twelve-digits l e = rw e (simp (and-true, and-false))
+
+-- a frame that a test of the kind and one of the length find is as wide as that length, or it is found behind them
+by-test : (l : List ℕ) (f g : Table.Frame) (n : ℕ) (others : Option Table.Frame) → width g ≡ suc n → (others ≡ some f → width f ≡ suc (length l))
+    → (t u : Bool) → eqb (length l) n ≡ u → cond (t && u) (some g) others ≡ some f → width f ≡ suc (length l)
+by-test l f g n others w later true true e q =
+    let is : g ≡ f = cc in
+    ap width (sym is) ∙ w ∙ ap suc (sym (eqb-true (length l) n e))
+by-test l f g n others w later true false e q = later q
+by-test l f g n others w later false u e q = later q
+
+-- a frame is as wide as its digits, with 0A after them
+digits-wide : (l : List ℕ) (f : Table.Frame) → frameOfKind l ≡ some f → width f ≡ suc (length l)
+unfolding frameOfKind
+digits-wide l f =
+    by-test l f (layoutFrame (fieldAt 2 l)) 6 _ refl
+    (by-test l f (jobFrame (fieldAt 2 l) (fieldAt 6 l)) 10 _ refl
+    (by-test l f (soloFrame (fieldAt 2 l) (fieldAt 6 l)) 10 _ refl
+    (by-test l f (windowFrame (fieldAt 2 l) (fieldAt 6 l) (windowAt 10 l)) 12 _ refl
+    (by-test l f (endFrame (fieldAt 2 l) (fieldAt 6 l)) 10 none refl
+    (λ q. let z : _≡_ {A = ℕ} 0 1 = cc in absurd (omega arith))
+    (eqb (kindOf l) 3) _ refl)
+    (eqb (kindOf l) 5) _ refl)
+    (eqb (kindOf l) 4) _ refl)
+    (eqb (kindOf l) 2) _ refl)
+    (eqb (kindOf l) 1) _ refl
 
 -- ---- a line of n digits at the front
 
 module _ (n : ℕ) (s : List ℕ) (h : digitLine n s ≡ true) where
-  digit-line-end : endsAfter n s ≡ true
+  pub digit-line-end : endsAfter n s ≡ true
   unfolding digitLine
   digit-line-end = and-eq-true-iff (allOf isDigit (take n s)) (eqb (getD s n 0) 10) .0 h .1
 
@@ -163,93 +191,97 @@ pub short-line : (s : List ℕ) → digitLine 6 s ≡ true → frameOf (firstLin
 short-line s h =
     digit-line-frame 6 s h
     ∙ six-digits (take 6 s) (length-take-le 6 s (le-of-lt (digit-line-within 6 s h)))
-    ∙ rw (kind-of-take 6 s (omega arith), field-of-take 2 4 s (omega arith))
+    ∙ rw (kind-of-take 6 s (omega arith), number-of-take 4 2 4 s (omega arith))
 
 -- 10 digits and 0A: a job, a solo job, an end or no frame
 pub long-line : (s : List ℕ) → digitLine 10 s ≡ true → frameOf (firstLine s) ≡ longFrame (eqb (kindOf s)) (fieldAt 2 s) (fieldAt 6 s)
 long-line s h =
     digit-line-frame 10 s h
     ∙ ten-digits (take 10 s) (length-take-le 10 s (le-of-lt (digit-line-within 10 s h)))
-    ∙ rw (kind-of-take 10 s (omega arith), field-of-take 2 8 s (omega arith), field-of-take 6 4 s (omega arith))
+    ∙ rw (kind-of-take 10 s (omega arith), number-of-take 4 2 8 s (omega arith), number-of-take 4 6 4 s (omega arith))
 
--- ---- no such line
+-- 12 digits and 0A: a job with a window or no frame
+pub windowed-line : (s : List ℕ) → digitLine 12 s ≡ true → frameOf (firstLine s) ≡ cond (eqb (kindOf s) 5) (some (windowFrame (fieldAt 2 s) (fieldAt 6 s) (windowAt 10 s))) none
+windowed-line s h =
+    digit-line-frame 12 s h
+    ∙ twelve-digits (take 12 s) (length-take-le 12 s (le-of-lt (digit-line-within 12 s h)))
+    ∙ rw (kind-of-take 12 s (omega arith), number-of-take 4 2 10 s (omega arith), number-of-take 4 6 6 s (omega arith), number-of-take 2 10 2 s (omega arith))
 
-line-length : (s l : List ℕ) (ls : List Line) (n : ℕ) → lines s ≡ terminated l ∷ ls → allOf isDigit l ≡ true → length l ≡ n → digitLine n s ≡ true
-unfolding digitLine
-line-length s l ls n e d q =
-    let p = whole-line-leads s l ls e in
-    let front : take n s ≡ l = subst (λ (k : ℕ). take k s ≡ l) q (p .front) in
-    let end : getD s n 0 ≡ 10 = subst (λ (k : ℕ). getD s k 0 ≡ 10) q (p .end) in
-    rw (front, d, eq-eqb (getD s n 0) 10 end)
+-- ---- the line of a frame
 
-no-frame-in : (s : List ℕ) → digitLine 6 s ≡ false → digitLine 10 s ≡ false → (ls : List Line) → lines s ≡ ls → frameOf (firstOf ls) ≡ none
-unfolding frameOf
-no-frame-in s short long [] e = refl
-no-frame-in s short long (unterminated l ∷ ls) e = refl
-no-frame-in s short long (terminated l ∷ ls) e = go (allOf isDigit l) refl
+-- it is digits and 0A
+digits-in : (s : List ℕ) (f : Table.Frame) (ls : List Line) → lines s ≡ ls → frameOf (firstOf ls) ≡ some f → digitLine (width f - 1) s ≡ true
+unfolding digitLine frameOf
+digits-in s f [] e q = let z : _≡_ {A = ℕ} 0 1 = cc in absurd (omega arith)
+digits-in s f (unterminated l ∷ ls) e q = let z : _≡_ {A = ℕ} 0 1 = cc in absurd (omega arith)
+digits-in s f (terminated l ∷ ls) e q = go (allOf isDigit l) refl q
   where
-    go : (t : Bool) → allOf isDigit l ≡ t → cond t (frameOfKind l) none ≡ none
-    go false d = refl
-    go true d =
-        other-digits l
-        (λ q. true≢false (sym (line-length s l ls 6 e d q) ∙ short))
-        (λ q. true≢false (sym (line-length s l ls 10 e d q) ∙ long))
+    go : (t : Bool) → allOf isDigit l ≡ t → cond t (frameOfKind l) none ≡ some f → digitLine (width f - 1) s ≡ true
+    go false d q = let z : _≡_ {A = ℕ} 0 1 = cc in absurd (omega arith)
+    go true d q =
+        let p = whole-line-leads s l ls e in
+        let digits : width f - 1 ≡ length l = omega (arith, digits-wide l f q) in
+        rw (digits, p .front, d, eq-eqb (getD s (length l) 0) 10 (p .end))
 
--- neither 6 nor 10 digits and 0A at the front: no frame, however long the first line is
-pub no-frame : (s : List ℕ) → digitLine 6 s ≡ false → digitLine 10 s ≡ false → frameOf (firstLine s) ≡ none
+frame-digits : (s : List ℕ) (f : Table.Frame) → frameOf (firstLine s) ≡ some f → digitLine (width f - 1) s ≡ true
 unfolding firstLine
-no-frame s short long = no-frame-in s short long (lines s) refl
+frame-digits s f = digits-in s f (lines s) refl
+
+-- neither 6 nor 10 nor 12 digits and 0A at the front: no frame, however long the first line is
+pub no-frame : (s : List ℕ) → digitLine 6 s ≡ false → digitLine 10 s ≡ false → digitLine 12 s ≡ false → frameOf (firstLine s) ≡ none
+no-frame s short long windowed = go (frameOf (firstLine s)) refl
+  where
+    never : (f : Table.Frame) → digitLine (width f - 1) s ≡ true → ⊥
+    never (layoutFrame p) d = true≢false (sym d ∙ short)
+    never (jobFrame t b) d = true≢false (sym d ∙ long)
+    never (soloFrame t b) d = true≢false (sym d ∙ long)
+    never (windowFrame t b v) d = true≢false (sym d ∙ windowed)
+    never (endFrame n m) d = true≢false (sym d ∙ long)
+
+    go : (o : Option Table.Frame) → frameOf (firstLine s) ≡ o → o ≡ none
+    go none e = refl
+    go (some f) e = absurd (never f (frame-digits s f e))
 
 -- ---- the lines after the first
+
+pub width-some : (f : Table.Frame) → 0 < width f
+width-some (layoutFrame p) = omega arith
+width-some (jobFrame t b) = omega arith
+width-some (soloFrame t b) = omega arith
+width-some (windowFrame t b v) = omega arith
+width-some (endFrame n m) = omega arith
 
 -- after the line of a frame come the lines of the bytes past it
 pub record NextLine (s : List ℕ) (f : Table.Frame) : Type 0 where
   pub within : width f ≤ length s
   pub after : lines s ≡ firstLine s ∷ lines (drop (width f) s)
 
-short-width : (t : Bool) (p : ℕ) (f : Table.Frame) → cond t (some (layoutFrame p)) none ≡ some f → width f ≡ 7
-short-width true p f e = let q : layoutFrame p ≡ f = cc in ap width (sym q)
-short-width false p f e = let z : _≡_ {A = ℕ} 0 1 = cc in absurd (omega arith)
-
-long-width : (t u v : Bool) (p q : ℕ) (f : Table.Frame)
-    → cond t (some (jobFrame p q)) (cond u (some (soloFrame p q)) (cond v (some (endFrame p q)) none)) ≡ some f → width f ≡ 11
-long-width true u v p q f e = let q : jobFrame p q ≡ f = cc in ap width (sym q)
-long-width false true v p q f e = let q : soloFrame p q ≡ f = cc in ap width (sym q)
-long-width false false true p q f e = let q : endFrame p q ≡ f = cc in ap width (sym q)
-long-width false false false p q f e = let z : _≡_ {A = ℕ} 0 1 = cc in absurd (omega arith)
-
--- the line of f is n digits and 0A
-record DigitsOf (n : ℕ) (s : List ℕ) (f : Table.Frame) : Type 0 where
-  digits : digitLine n s ≡ true
-  wide : width f ≡ suc n
-
--- that of any frame is 6 or 10
-frame-digits : (s : List ℕ) (f : Table.Frame) → frameOf (firstLine s) ≡ some f → DigitsOf 6 s f ⊎ DigitsOf 10 s f
-frame-digits s f e = short (digitLine 6 s) refl
-  where
-    long : (t : Bool) → digitLine 6 s ≡ false → digitLine 10 s ≡ t → DigitsOf 6 s f ⊎ DigitsOf 10 s f
-    long true a b =
-        inr (record { digits = b; wide = long-width (eqb (kindOf s) 2) (eqb (kindOf s) 4) (eqb (kindOf s) 3) (fieldAt 2 s) (fieldAt 6 s) f (sym (long-line s b) ∙ e) })
-    long false a b = let n = no-frame s a b in let z : _≡_ {A = ℕ} 0 1 = cc in absurd (omega arith)
-
-    short : (t : Bool) → digitLine 6 s ≡ t → DigitsOf 6 s f ⊎ DigitsOf 10 s f
-    short true a =
-        inl (record { digits = a; wide = short-width (eqb (kindOf s) 1) (fieldAt 2 s) f (sym (short-line s a) ∙ e) })
-    short false a = long (digitLine 10 s) a refl
-
-next-of : (n : ℕ) (s : List ℕ) (f : Table.Frame) → DigitsOf n s f → NextLine s f
-next-of n s f d = record { within = rw (d .wide) (digit-line-within n s (d .digits)); after = rw (d .wide) (digit-line-first n s (d .digits)) }
-
 pub next-line : (s : List ℕ) (f : Table.Frame) → frameOf (firstLine s) ≡ some f → NextLine s f
-next-line s f e = ⊎-elim (next-of 6 s f) (next-of 10 s f) (frame-digits s f e)
+next-line s f e =
+    let d = frame-digits s f e in
+    let wide : width f ≡ suc (width f - 1) = omega (arith, width-some f) in
+    record { within = rw wide (digit-line-within (width f - 1) s d); after = rw wide (digit-line-first (width f - 1) s d) }
 
--- where a frame's line has its 0A tells how wide it is
-pub width-by-end : (s : List ℕ) (f : Table.Frame) → frameOf (firstLine s) ≡ some f → width f ≡ cond (endsAfter 6 s) 7 11
-width-by-end s f e =
-    ⊎-elim
-    (λ d. rw (digit-line-end 6 s (d .digits)) (d .wide))
-    (λ d. rw (digit-line-no-end 10 s (d .digits) 6 (omega arith)) (d .wide))
-    (frame-digits s f e)
+-- how wide the line of a job or an end is, by where it has its 0A
+abbrev pub jobWidth : List ℕ → ℕ
+jobWidth s = cond (endsAfter 10 s) 11 13
+
+-- and that of any frame: a layout's has it after 6 bytes
+abbrev pub widthByEnd : List ℕ → ℕ
+widthByEnd s = cond (endsAfter 6 s) 7 (jobWidth s)
+
+pub width-by-end : (s : List ℕ) (f : Table.Frame) → frameOf (firstLine s) ≡ some f → width f ≡ widthByEnd s
+width-by-end s f e = go f (frame-digits s f e)
+  where
+    long : digitLine 10 s ≡ true → 11 ≡ widthByEnd s
+    long d = rw (digit-line-no-end 10 s d 6 (omega arith), digit-line-end 10 s d)
+
+    go : (f : Table.Frame) → digitLine (width f - 1) s ≡ true → width f ≡ widthByEnd s
+    go (layoutFrame p) d = rw (digit-line-end 6 s d)
+    go (jobFrame t b) d = long d
+    go (soloFrame t b) d = long d
+    go (windowFrame t b v) d = rw (digit-line-no-end 12 s d 6 (omega arith), digit-line-no-end 12 s d 10 (omega arith))
+    go (endFrame n m) d = long d
 
 lead-first : (b : ℕ) (ls : List Line) → (rest : List Line) × (lead b ls ≡ firstOf (lead b ls) ∷ rest)
 unfolding lead
@@ -269,23 +301,18 @@ some-line (b ∷ bs) h = go (eqb b 10)
 
 -- ---- what the answer of a line tells of it
 
-pub frame-answered : (r : FrameRead) (f : Frame) (line : ℕ) (o : Option Table.Frame) → frameAnswer r ≡ lineAnswer line o → r ≡ Read f → o ≡ some (frameCase f)
+-- the line holds f, with a window that there is
+pub record FrameThere (f : Table.Frame) (o : Option Table.Frame) : Type 0 where
+  pub there : o ≡ some f
+  pub known : beyondWindows f ≡ false
+
+pub frame-answered : (r : FrameRead) (f : Frame) (line : ℕ) (o : Option Table.Frame) → frameAnswer r ≡ lineAnswer line o → r ≡ Read f → FrameThere (frameCase f) o
 frame-answered r f line none e q =
     let z : found (frameCase f) ≡ refusal 1 line = ap frameAnswer (sym q) ∙ e in
     let apart : _≡_ {A = ℕ} 0 1 = cc in
     absurd (omega arith)
-frame-answered r f line (some g) e q = let z : found (frameCase f) ≡ found g = ap frameAnswer (sym q) ∙ e in cc
-
-pub record NoFrame (x : Refusal) (line : ℕ) (o : Option Table.Frame) : Type 0 where
-  pub none-there : o ≡ none
-  pub number-one : x .number ≡ 1
-  pub own-line : x .place ≡ line
-
-pub refusal-answered : (r : FrameRead) (x : Refusal) (line : ℕ) (o : Option Table.Frame) → frameAnswer r ≡ lineAnswer line o → r ≡ Refused x → NoFrame x line o
-refusal-answered r x line none e q =
-    let z : refusal (x .number) (x .place) ≡ refusal 1 line = ap frameAnswer (sym q) ∙ e in
-    record { none-there = refl; number-one = cc; own-line = cc }
-refusal-answered r x line (some g) e q =
-    let z : refusal (x .number) (x .place) ≡ found g = ap frameAnswer (sym q) ∙ e in
-    let apart : _≡_ {A = ℕ} 0 1 = cc in
-    absurd (omega arith)
+frame-answered r f line (some g) e q = go (beyondWindows g) refl (ap frameAnswer (sym q) ∙ e)
+  where
+    go : (t : Bool) → beyondWindows g ≡ t → found (frameCase f) ≡ cond t (refusal 9 line) (found g) → FrameThere (frameCase f) (some g)
+    go true b z = let apart : _≡_ {A = ℕ} 0 1 = cc in absurd (omega arith)
+    go false b z = let is : frameCase f ≡ g = cc in rw is (record { there = refl; known = b })

@@ -34,10 +34,10 @@ pub record PackedSettle (parents depths firsts lasts : List ℕ) (packed : ℕ) 
   pub outcome : SettleOutcome parents depths firsts lasts result depths′ firsts′ lasts′
 
 -- *Read a table*, its answer packed
-pub record PackedTable (bytes parents tops bottoms marks : List ℕ) (packed : ℕ) (parents′ tops′ bottoms′ marks′ : List ℕ) : Type 0 where
+pub record PackedTable (bytes parents tops bottoms marks windows : List ℕ) (packed : ℕ) (parents′ tops′ bottoms′ marks′ windows′ : List ℕ) : Type 0 where
   pub result : TableRead
   pub packs : packed ≡ packedRead result
-  pub outcome : ReadOutcome bytes parents tops bottoms marks result parents′ tops′ bottoms′ marks′
+  pub outcome : ReadOutcome bytes parents tops bottoms marks windows result parents′ tops′ bottoms′ marks′ windows′
 
 -- a list after the leading numbers of another are copied over it, as far as there is room
 abbrev pub copied : List ℕ → List ℕ → List ℕ
@@ -54,7 +54,7 @@ packedPlanned (planned.Done p) = p .pairs * 281474976710656 + p .singles * 42949
 packedPlanned (planned.Refused r) = packedRefusal r + 9223372036854775808
 
 -- *Plan*, its answer packed
-pub record PackedPlan (parents tops bottoms marks partners uppers printed work : List ℕ) (packed : ℕ) (partners′ uppers′ printed′ work′ : List ℕ) : Type 0 where
+pub record PackedPlan (parents tops bottoms marks windows partners uppers printed work : List ℕ) (packed : ℕ) (partners′ uppers′ printed′ work′ : List ℕ) : Type 0 where
   pub result : Planned
   pub packs : packed ≡ packedPlanned result
-  pub outcome : PlanOutcome parents tops bottoms marks partners uppers printed work result partners′ uppers′ printed′ work′
+  pub outcome : PlanOutcome parents tops bottoms marks windows partners uppers printed work result partners′ uppers′ printed′ work′

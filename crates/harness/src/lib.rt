@@ -49,10 +49,11 @@ pub extern "C" fn harness_read(
     tops: &mut [u16],
     bottoms: &mut [u16],
     marks: &mut [u8],
+    windows: &mut [u8],
 ) -> u64
-    ensures { λ r. ⌜ PackedTable (now (bytes .entry)) (now (parents .entry)) (now (tops .entry)) (now (bottoms .entry)) (now (marks .entry)) r (now (parents .exit)) (now (tops .exit)) (now (bottoms .exit)) (now (marks .exit)) ⌝ }
+    ensures { λ r. ⌜ PackedTable (now (bytes .entry)) (now (parents .entry)) (now (tops .entry)) (now (bottoms .entry)) (now (marks .entry)) (now (windows .entry)) r (now (parents .exit)) (now (tops .exit)) (now (bottoms .exit)) (now (marks .exit)) (now (windows .exit)) ⌝ }
 {
-    let answer = table::read_table(bytes, parents, tops, bottoms, marks);
+    let answer = table::read_table(bytes, parents, tops, bottoms, marks, windows);
     packed_read(answer)
 }
 
@@ -117,18 +118,20 @@ pub extern "C" fn harness_plan(
     tops: &[u16],
     bottoms: &[u16],
     marks: &[u8],
+    windows: &[u8],
     partners: &mut [u16],
     uppers: &mut [u16],
     printed: &mut [u16],
     work: &mut [u16],
 ) -> u64
-    ensures { λ r. ⌜ PackedPlan (now (parents .entry)) (now (tops .entry)) (now (bottoms .entry)) (now (marks .entry)) (now (partners .entry)) (now (uppers .entry)) (now (printed .entry)) (now (work .entry)) r (now (partners .exit)) (now (uppers .exit)) (now (printed .exit)) (now (work .exit)) ⌝ }
+    ensures { λ r. ⌜ PackedPlan (now (parents .entry)) (now (tops .entry)) (now (bottoms .entry)) (now (marks .entry)) (now (windows .entry)) (now (partners .entry)) (now (uppers .entry)) (now (printed .entry)) (now (work .entry)) r (now (partners .exit)) (now (uppers .exit)) (now (printed .exit)) (now (work .exit)) ⌝ }
 {
     let answer = planner::plan(
         parents,
         tops,
         bottoms,
         marks,
+        windows,
         partners,
         uppers,
         printed,

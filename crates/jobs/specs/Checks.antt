@@ -1,4 +1,4 @@
--- What checking the jobs promises (document 01, "What each operation turns away", refusals 5 and 6).
+-- What checking the jobs promises (document 01, "What each operation turns away", refusals 5, 6 and 9).
 use Prim.Native.Nat.{ℕ, _<_}
 use mathlib.Core.Path.{_≡_}
 use mathlib.Core.Bool.{not}
@@ -21,10 +21,10 @@ checkVerdict (Wrong number job) = refused number (job .0)
 abbrev pub numberVerdict : ℕ → ℕ → Verdict
 numberVerdict number place = refuseIf (not (eqb number 0)) number place
 
--- the number is the verdict on a job from top to bottom, in every tree of so many layouts that is settled so
-pub record JobChecked (layouts top bottom : ℕ) (cells : List ℕ) (number : ℕ) : Type 0 where
-  pub verdict : (ps : List ℕ) → length ps ≡ layouts → Spanned ps cells → (place : ℕ) → jobVerdict ps top bottom place ≡ numberVerdict number place
+-- the number is the verdict on a job from top to bottom in a window, in every tree of so many layouts that is settled so
+pub record JobChecked (layouts top bottom window : ℕ) (cells : List ℕ) (number : ℕ) : Type 0 where
+  pub verdict : (ps : List ℕ) → length ps ≡ layouts → Spanned ps cells → (place : ℕ) → jobVerdict ps top bottom window place ≡ numberVerdict number place
 
 -- the answer is the verdict on all jobs, in every tree of so many layouts, whatever their marks; if there are jobs, the tree is settled so
-pub record JobsChecked (layouts : ℕ) (tops bottoms cells : List ℕ) (r : JobCheck) : Type 0 where
-  pub verdict : (ps marks : List ℕ) → length ps ≡ layouts → (0 < length tops → Spanned ps cells) → jobsVerdict (tableOf ps tops bottoms marks) ≡ checkVerdict r
+pub record JobsChecked (layouts : ℕ) (tops bottoms windows cells : List ℕ) (r : JobCheck) : Type 0 where
+  pub verdict : (ps marks : List ℕ) → length ps ≡ layouts → (0 < length tops → Spanned ps cells) → jobsVerdict (tableOf ps tops bottoms marks windows) ≡ checkVerdict r

@@ -21,7 +21,7 @@ module _ (tb : Table) (partners uppers printed work : ℕ) where
   unfolding planVerdict
   lent-refused e = rw e
 
-  -- 8: tops, bottoms and marks of unequal length
+  -- 8: tops, bottoms, marks and windows of unequal length
   pub unequal-bottoms : (jobs tb ≡ length (tb .bottoms) → ⊥) → planVerdict tb partners uppers printed work ≡ refused 8 0
   unfolding lentVerdict
   unequal-bottoms f = lent-refused (rw (ne-eqb (jobs tb) (length (tb .bottoms)) f))
@@ -31,30 +31,34 @@ module _ (tb : Table) (partners uppers printed work : ℕ) where
     unfolding lentVerdict
     unequal-marks f = lent-refused (rw (eq-eqb (jobs tb) (length (tb .bottoms)) bottoms, ne-eqb (jobs tb) (length (tb .marks)) f))
 
-    module _ (marks : jobs tb ≡ length (tb .marks)) where
+    pub unequal-windows : jobs tb ≡ length (tb .marks) → (jobs tb ≡ length (tb .windows) → ⊥) → planVerdict tb partners uppers printed work ≡ refused 8 0
+    unfolding lentVerdict
+    unequal-windows marks f = lent-refused (rw (eq-eqb (jobs tb) (length (tb .bottoms)) bottoms, eq-eqb (jobs tb) (length (tb .marks)) marks, ne-eqb (jobs tb) (length (tb .windows)) f))
+
+    module _ (marks : jobs tb ≡ length (tb .marks)) (windows : jobs tb ≡ length (tb .windows)) where
       -- 8: a result shorter than tops
       pub short-partners : partners < jobs tb → planVerdict tb partners uppers printed work ≡ refused 8 0
       unfolding lentVerdict
-      short-partners h = lent-refused (rw (eq-eqb (jobs tb) (length (tb .bottoms)) bottoms, eq-eqb (jobs tb) (length (tb .marks)) marks, lt-ltb partners (jobs tb) h))
+      short-partners h = lent-refused (rw (eq-eqb (jobs tb) (length (tb .bottoms)) bottoms, eq-eqb (jobs tb) (length (tb .marks)) marks, eq-eqb (jobs tb) (length (tb .windows)) windows, lt-ltb partners (jobs tb) h))
 
       pub short-uppers : jobs tb ≤ partners → uppers < jobs tb → planVerdict tb partners uppers printed work ≡ refused 8 0
       unfolding lentVerdict
-      short-uppers p h = lent-refused (rw (eq-eqb (jobs tb) (length (tb .bottoms)) bottoms, eq-eqb (jobs tb) (length (tb .marks)) marks, le-ltb partners (jobs tb) p, lt-ltb uppers (jobs tb) h))
+      short-uppers p h = lent-refused (rw (eq-eqb (jobs tb) (length (tb .bottoms)) bottoms, eq-eqb (jobs tb) (length (tb .marks)) marks, eq-eqb (jobs tb) (length (tb .windows)) windows, le-ltb partners (jobs tb) p, lt-ltb uppers (jobs tb) h))
 
       pub short-printed : jobs tb ≤ partners → jobs tb ≤ uppers → printed < jobs tb → planVerdict tb partners uppers printed work ≡ refused 8 0
       unfolding lentVerdict
-      short-printed p u h = lent-refused (rw (eq-eqb (jobs tb) (length (tb .bottoms)) bottoms, eq-eqb (jobs tb) (length (tb .marks)) marks, le-ltb partners (jobs tb) p, le-ltb uppers (jobs tb) u, lt-ltb printed (jobs tb) h))
+      short-printed p u h = lent-refused (rw (eq-eqb (jobs tb) (length (tb .bottoms)) bottoms, eq-eqb (jobs tb) (length (tb .marks)) marks, eq-eqb (jobs tb) (length (tb .windows)) windows, le-ltb partners (jobs tb) p, le-ltb uppers (jobs tb) u, lt-ltb printed (jobs tb) h))
 
       -- 8: too few work cells
       pub short-work : jobs tb ≤ partners → jobs tb ≤ uppers → jobs tb ≤ printed → work < workCells → planVerdict tb partners uppers printed work ≡ refused 8 0
       unfolding lentVerdict
-      short-work p u l h = lent-refused (rw (eq-eqb (jobs tb) (length (tb .bottoms)) bottoms, eq-eqb (jobs tb) (length (tb .marks)) marks, le-ltb partners (jobs tb) p, le-ltb uppers (jobs tb) u, le-ltb printed (jobs tb) l, lt-ltb work workCells h))
+      short-work p u l h = lent-refused (rw (eq-eqb (jobs tb) (length (tb .bottoms)) bottoms, eq-eqb (jobs tb) (length (tb .marks)) marks, eq-eqb (jobs tb) (length (tb .windows)) windows, le-ltb partners (jobs tb) p, le-ltb uppers (jobs tb) u, le-ltb printed (jobs tb) l, lt-ltb work workCells h))
 
   module _ (lent : Lent tb partners uppers printed work) where
     -- with enough lent, the table itself is judged
     sized : planVerdict tb partners uppers printed work ≡ (refuseIf (ltb layoutLimit (length (tb .parents)) || ltb jobLimit (jobs tb)) 3 0 then treeVerdict (tb .parents) then jobsVerdict tb)
     unfolding planVerdict lentVerdict
-    sized = rw (eq-eqb (jobs tb) (length (tb .bottoms)) (lent .bottoms-length), eq-eqb (jobs tb) (length (tb .marks)) (lent .marks-length), le-ltb partners (jobs tb) (lent .partners-room), le-ltb uppers (jobs tb) (lent .uppers-room), le-ltb printed (jobs tb) (lent .printed-room), le-ltb work workCells (lent .work-room))
+    sized = rw (eq-eqb (jobs tb) (length (tb .bottoms)) (lent .bottoms-length), eq-eqb (jobs tb) (length (tb .marks)) (lent .marks-length), eq-eqb (jobs tb) (length (tb .windows)) (lent .windows-length), le-ltb partners (jobs tb) (lent .partners-room), le-ltb uppers (jobs tb) (lent .uppers-room), le-ltb printed (jobs tb) (lent .printed-room), le-ltb work workCells (lent .work-room))
 
     -- 3: over the limit of jobs
     pub many-jobs : jobLimit < jobs tb → planVerdict tb partners uppers printed work ≡ refused 3 0
@@ -73,21 +77,26 @@ module _ (tb : Table) (partners uppers printed work : ℕ) where
       pub wrong-layouts : (number place : ℕ) → layoutsVerdict (tb .parents) ≡ refused number place → planVerdict tb partners uppers printed work ≡ refused number place
       wrong-layouts number place e = judged ∙ rw e
 
-      -- of a tree, 5 and 6
+      -- of a tree, 5, 6 and 9
       pub right-layouts : layoutsVerdict (tb .parents) ≡ accepted → planVerdict tb partners uppers printed work ≡ jobsVerdict tb
       right-layouts e = judged ∙ rw e
 
   -- what passes them all is a table that can be planned
-  even : lentVerdict tb partners uppers printed work ≡ accepted → (jobs tb ≡ length (tb .bottoms)) × (jobs tb ≡ length (tb .marks))
+  even : lentVerdict tb partners uppers printed work ≡ accepted → (jobs tb ≡ length (tb .bottoms)) × (jobs tb ≡ length (tb .marks)) × (jobs tb ≡ length (tb .windows))
   unfolding lentVerdict
   even e =
       let bottoms = not (eqb (jobs tb) (length (tb .bottoms))) in
       let marks = not (eqb (jobs tb) (length (tb .marks))) in
-      let few = bottoms || marks || ltb partners (jobs tb) || ltb uppers (jobs tb) in
+      let windows = not (eqb (jobs tb) (length (tb .windows))) in
+      let few = bottoms || marks || windows || ltb partners (jobs tb) || ltb uppers (jobs tb) in
       let all = or-false-both (few || ltb printed (jobs tb)) (ltb work workCells) (not-refused (few || ltb printed (jobs tb) || ltb work workCells) 8 0 e) in
-      let results = or-false-both (bottoms || marks || ltb partners (jobs tb)) (ltb uppers (jobs tb)) (or-false-both few (ltb printed (jobs tb)) (all .0) .0) in
-      let columns = or-false-both bottoms marks (or-false-both (bottoms || marks) (ltb partners (jobs tb)) (results .0) .0) in
-      (eqb-true (jobs tb) (length (tb .bottoms)) (not-false (eqb (jobs tb) (length (tb .bottoms))) (columns .0)), eqb-true (jobs tb) (length (tb .marks)) (not-false (eqb (jobs tb) (length (tb .marks))) (columns .1)))
+      let results = or-false-both (bottoms || marks || windows || ltb partners (jobs tb)) (ltb uppers (jobs tb)) (or-false-both few (ltb printed (jobs tb)) (all .0) .0) in
+      let three = or-false-both (bottoms || marks) windows (or-false-both (bottoms || marks || windows) (ltb partners (jobs tb)) (results .0) .0) in
+      let two = or-false-both bottoms marks (three .0) in (
+        eqb-true (jobs tb) (length (tb .bottoms)) (not-false (eqb (jobs tb) (length (tb .bottoms))) (two .0)),
+        eqb-true (jobs tb) (length (tb .marks)) (not-false (eqb (jobs tb) (length (tb .marks))) (two .1)),
+        eqb-true (jobs tb) (length (tb .windows)) (not-false (eqb (jobs tb) (length (tb .windows))) (three .1)),
+      )
 
   pub plan-accepted : planVerdict tb partners uppers printed work ≡ accepted → Accepted tb
   unfolding planVerdict
@@ -98,4 +107,4 @@ module _ (tb : Table) (partners uppers printed work : ℕ) where
       let three = then-accepted (treeVerdict (tb .parents)) (jobsVerdict tb) (two .1) in
       let few = or-false-both (ltb layoutLimit (length (tb .parents))) (ltb jobLimit (jobs tb)) (not-refused many 3 0 (two .0)) in
       let columns = even (one .0) in
-      table-accepted tb (well-formed (tb .parents) (three .0) (ltb-false layoutLimit (length (tb .parents)) (few .0))) (ltb-false jobLimit (jobs tb) (few .1)) (sym (columns .0)) (sym (columns .1)) (three .1)
+      table-accepted tb (well-formed (tb .parents) (three .0) (ltb-false layoutLimit (length (tb .parents)) (few .0))) (ltb-false jobLimit (jobs tb) (few .1)) (sym (columns .0)) (sym (columns .1)) (sym (columns .2)) (three .1)

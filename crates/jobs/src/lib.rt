@@ -1,6 +1,7 @@
-// The jobs of a table: their tops and bottoms, and whether they can be planned (document 01, "What each operation turns away", refusals 5 and 6).
+// The jobs of a table: their tops, bottoms and windows, and whether they can be planned (document 01, "What each operation turns away", refusals 5, 6 and 9).
 use model::JobNumber;
 use model::LayoutNumber;
+use model::WindowNumber;
 use settle::TREE;
 ghost use Prim.Native.Nat.{_<_, _≤_};
 ghost use mathlib.Core.Path.{_≡_};
@@ -27,16 +28,31 @@ pub fn bottom_of(bottoms: &[u16], job: JobNumber) -> LayoutNumber
     LayoutNumber(bottoms[at])
 }
 
+// The window of a job.
+pub fn window_of(windows: &[u8], job: JobNumber) -> WindowNumber
+    requires { ⌜ job .0 < length (now windows) ⌝ }
+    ensures { λ r. ⌜ r .0 ≡ getD (now (windows .entry)) (job .0) 0 ⌝ }
+{
+    let at = job.0 as usize;
+    WindowNumber(windows[at])
+}
+
 // What checking the jobs answers: all are right, or the number of the refusal and the smallest job that is wrong.
 pub enum JobCheck {
     Right,
     Wrong(u16, JobNumber),
 }
 
-// The number of one job's refusal: 5, a top or bottom that is no layout; 6, a bottom not at or below its top; 0 for none.
-fn check_job(tree: &[u16; TREE], layouts: usize, top: LayoutNumber, bottom: LayoutNumber) -> u16
+// The number of one job's refusal: 5, a top or bottom that is no layout; 6, a bottom not at or below its top; 9, a window above 15; 0 for none.
+fn check_job(
+    tree: &[u16; TREE],
+    layouts: usize,
+    top: LayoutNumber,
+    bottom: LayoutNumber,
+    window: WindowNumber,
+) -> u16
     requires { ⌜ layouts ≤ layoutLimit ⌝ }
-    ensures { λ r. ⌜ JobChecked layouts (top .0) (bottom .0) (now (tree .entry)) r ⌝ }
+    ensures { λ r. ⌜ JobChecked layouts (top .0) (bottom .0) (window .0) (now (tree .entry)) r ⌝ }
 {
     if !top.is_among(layouts) {
         return 5;
@@ -44,23 +60,36 @@ fn check_job(tree: &[u16; TREE], layouts: usize, top: LayoutNumber, bottom: Layo
     if !bottom.is_among(layouts) {
         return 5;
     }
-    if settle::is_ancestor(tree, top, bottom) {
+    if !settle::is_ancestor(tree, top, bottom) {
+        return 6;
+    }
+    if window.is_known() {
         return 0;
     }
-    6
+    9
 }
 
 // Checks the jobs by number, the smallest first.
-pub fn check_jobs(tree: &[u16; TREE], layouts: usize, tops: &[u16], bottoms: &[u16]) -> JobCheck
+pub fn check_jobs(
+    tree: &[u16; TREE],
+    layouts: usize,
+    tops: &[u16],
+    bottoms: &[u16],
+    windows: &[u8],
+) -> JobCheck
     requires { ⌜ layouts ≤ layoutLimit ⌝ }
     requires { ⌜ length (now tops) ≤ jobLimit ⌝ }
     requires { ⌜ length (now bottoms) ≡ length (now tops) ⌝ }
-    ensures { λ r. ⌜ JobsChecked layouts (now (tops .entry)) (now (bottoms .entry)) (now (tree .entry)) r ⌝ }
+    requires { ⌜ length (now windows) ≡ length (now tops) ⌝ }
+    ensures { λ r. ⌜ JobsChecked layouts (now (tops .entry)) (now (bottoms .entry)) (now (windows .entry)) (now (tree .entry)) r ⌝ }
 {
     let mut j = 0;
     while j < tops.len() {
         let job = JobNumber(j as u16);
-        let number = check_job(tree, layouts, top_of(tops, job), bottom_of(bottoms, job));
+        let top = top_of(tops, job);
+        let bottom = bottom_of(bottoms, job);
+        let window = window_of(windows, job);
+        let number = check_job(tree, layouts, top, bottom, window);
         if number != 0 {
             return JobCheck::Wrong(number, job);
         }

@@ -1,8 +1,12 @@
 -- Plain laws of tests and their answers.
+use Prim.Native.Nat.{ℕ, _+_}
 use mathlib.Core.Path.{_≡_, refl, sym, _∙_}
 use mathlib.Core.Logic.{_⊎_, inl, inr}
 use mathlib.Core.Bool.{Bool, true, false, _||_, true≢false}
-use lib.Dec.{T}
+use native.Mathlib.Omega.{arith}
+use native.Mathlib.Decide.{decLt, ℕ-discrete}
+use lib.Dec.{T, eqb, leb, ltb}
+use borrow.Author.Tests.{eq-eqb, ne-eqb, lt-ltb, le-ltb, le-leb, lt-leb}
 
 -- a test answers one or the other
 pub answers : (b : Bool) → (b ≡ true) ⊎ (b ≡ false)
@@ -42,3 +46,23 @@ true-T e = rw e tt
 pub T-true : (b : Bool) → T b → b ≡ true
 T-true true t = refl
 T-true false t = absurd t
+
+-- numbers moved by as much compare as they did
+module _ (b x y : ℕ) where
+  pub leb-moved : leb (b + x) (b + y) ≡ leb x y
+  leb-moved = elim (decLt y x) [
+    | yes less ↦ rw (lt-leb x y less, lt-leb (b + x) (b + y) (omega arith)) refl
+    | no more ↦ rw (le-leb x y (omega arith), le-leb (b + x) (b + y) (omega arith)) refl
+  ]
+
+  pub ltb-moved : ltb (b + x) (b + y) ≡ ltb x y
+  ltb-moved = elim (decLt x y) [
+    | yes less ↦ rw (lt-ltb x y less, lt-ltb (b + x) (b + y) (omega arith)) refl
+    | no more ↦ rw (le-ltb x y (omega arith), le-ltb (b + x) (b + y) (omega arith)) refl
+  ]
+
+  pub eqb-moved : eqb (b + x) (b + y) ≡ eqb x y
+  eqb-moved = elim (ℕ-discrete x y) [
+    | yes same ↦ rw (eq-eqb x y same, eq-eqb (b + x) (b + y) (omega arith)) refl
+    | no other ↦ rw (ne-eqb x y other, ne-eqb (b + x) (b + y) (λ e. other (omega arith))) refl
+  ]

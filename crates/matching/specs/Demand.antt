@@ -8,7 +8,7 @@ use lib.ListN.{length, take, drop, take-append-drop}
 use lib.Dec.{ltb}
 use borrow.Author.Tests.{ltb-true, lt-ltb, le-ltb}
 use Rattle.model.specs.Lists.{countWhere, select, total}
-use Rattle.model.specs.Jobs.{Table, jobs, jobLimit, solo, shares, highestDepth}
+use Rattle.model.specs.Jobs.{Table, jobs, jobLimit, solo, sameWindow, shares, highestDepth}
 use Rattle.model.specs.Order.{runningOrder, place}
 use Rattle.model.specs.Greedy.{greedy, compatible, passes}
 use Rattle.model.specs.Rival.{Pair, NoCommonJob, Rules, Rival, inFront, pairsInFront, pairsOf}
@@ -57,7 +57,7 @@ module _ (tb : Table) (m : ℕ) where
         one-in = place-front tb m (p .one) (r .one-known) (ltb-true (place tb (p .one)) m (b .0));
         other-in = place-front tb m (p .other) (r .other-known) (ltb-true (place tb (p .other)) m (b .1));
         differ = r .differ;
-        fits = true-compatible tb (p .one) (p .other) (T-true (not (solo tb (p .one))) (r .one-not-solo)) (T-true (not (solo tb (p .other))) (r .other-not-solo)) (T-true (shares tb (p .one) (p .other)) (r .share));
+        fits = true-compatible tb (p .one) (p .other) (T-true (not (solo tb (p .one))) (r .one-not-solo)) (T-true (not (solo tb (p .other))) (r .other-not-solo)) (T-true (sameWindow tb (p .one) (p .other)) (r .same-window)) (T-true (shares tb (p .one) (p .other)) (r .share));
       }
 
 -- document 01: for every rival plan and every cut, our pairs in front of the cut are at least as many as the rival's.

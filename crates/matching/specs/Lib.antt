@@ -5,6 +5,7 @@ pub mod Renamed
 pub mod Prefix
 pub mod RunningOrder
 pub mod Compatible
+pub mod OneWindow
 pub mod Partners
 pub mod PartnersShare
 pub mod BareSheet

@@ -301,7 +301,8 @@ module _ (tb : Table) where
               differ = λ e. omega arith;
               one-not-solo = true-T (c .0);
               other-not-solo = true-T (c .1);
-              share = true-T (c .2);
+              same-window = true-T (c .2);
+              share = true-T (c .3);
             }
 
     -- so they are themselves such a plan

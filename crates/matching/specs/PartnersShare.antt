@@ -24,7 +24,7 @@ module _ (tb : Table) (t : Tree (tb .parents)) (down : (j : ℕ) → j < jobs tb
   pub partners-share : shares tb i j ≡ true
   partners-share =
       let held = partner-cell tb i hi ∙ partner in
-      compatible-true tb i j (rw held at (cell-compatible tb few i hi (rw held hj))) .2
+      compatible-true tb i j (rw held at (cell-compatible tb few i hi (rw held hj))) .3
 
   -- the upper layout is the highest of the earlier
   pub upper-earlier : place tb i < place tb j → upper tb i ≡ highest tb i

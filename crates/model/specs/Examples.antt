@@ -1,18 +1,20 @@
--- The worked tables (docs/RULES.md, 15): document 01's "Tables to try" that are marked ◆, planned as 2026-01 and 2026-02 ask, tables that tell wrong planners, what is
--- printed for some and for tables that 2026-04 newly accepts or refuses, and worked stretches: a table of examples, one of printings, one of stretches, and one fact of the three.
+-- The worked tables (docs/RULES.md, 15): document 01's "Tables to try" that are marked ◆, planned as 2026-01 and 2026-02 ask, tables that tell wrong planners, tables with
+-- windows, what is printed for some and for tables that 2026-04 and 2026-05 newly accept or refuse, and worked stretches: a table of examples, one of printings, one of
+-- stretches, and one fact of the three.
 use Prim.Native.Nat.{ℕ}
 use mathlib.Core.Path.{_≡_, refl}
+use mathlib.Core.Bool.{Bool}
 use mathlib.Core.List.{List, [], _∷_, _++_, map, flatMap, headD}
 use lib.ListN.{length, getD}
 use Rattle.model.specs.Lists.{numbersFrom, numbers, elem, indexOf, lastD, anyOf, allOf, select, countWhere, find, total, insertBy, sortBy, without}
 use Rattle.model.specs.Verdict.{Verdict, accepted, refused}
 use Rattle.model.specs.Tree.{FFFF, rightParent, layoutsFrom, treeVerdict, ascend, ancestors, ancestorOrSelf, depth, children, orSelf, leavesWithin, leaves, firstLeaf, lastLeaf}
-use Rattle.model.specs.Jobs.{Table, solo, upTo, pathFrom, path, ownPath, bare, asks, highest, highestDepth, shares, sharedLayouts, highestShared, deepestShared, bottomLeaf, jobVerdict}
-use Rattle.model.specs.Order.{earlier, runningOrder, place, leftward, slotOrder, slot}
+use Rattle.model.specs.Jobs.{Table, solo, sameWindow, upTo, pathFrom, path, ownPath, bare, asks, highest, highestDepth, shares, sharedLayouts, highestShared, deepestShared, bottomLeaf, jobVerdict}
+use Rattle.model.specs.Order.{earlier, runningOrder, place, leftward, windowJobs, windowSize, slotOrder, slot}
 use Rattle.model.specs.Greedy.{Pass, pair, single, greedyStep, greedySteps, greedy, compatible, passes}
 use Rattle.model.specs.Visits.{levelsFrom, levels, cellVisits, visits, asksFor, askedSlots, askedFrom, askedTo, lookupVisits, passVisits, cellCount}
 use Rattle.model.specs.Planning.{workCells, lentVerdict, jobsVerdict, planVerdict, partnerIn, pairCount, singleCount, partners, upper, upperLayouts, printed, printedLayouts, pairs, singles}
-use Rattle.model.specs.Table.{isDigit, digitValue, numberAfter, lead, lines, frameOfKind, frameOf, isEnd, endWithoutLayout, onItsLine, contentVerdict, frameVerdict, extended, withOwnLine, unlessRefused, readFrame, readLines, readTable}
+use Rattle.model.specs.Table.{windowFrame, isDigit, digitValue, numberAfter, lead, lines, frameOfKind, frameOf, isEnd, beyondWindows, endWithoutLayout, onItsLine, contentVerdict, frameVerdict, extended, withOwnLine, unlessRefused, readFrame, readLines, readTable}
 use Rattle.model.specs.Output.{digit, hex, pairLine, singleLine, totalsLine, passLine, planBytes, refusalBytes, readingBytes, runBytes}
 use Rattle.model.specs.Stretch.{agreement, startsIn, leading, stretchOf, begun, numbersOf, dropped, kept}
 
@@ -34,14 +36,19 @@ record Job : Type 0 where
   top : ℕ
   bottom : ℕ
   mark : ℕ
+  window : ℕ
 
 infix 70 _to_
 _to_ : ℕ → ℕ → Job
-t to b = record { top = t; bottom = b; mark = 0 }
+t to b = record { top = t; bottom = b; mark = 0; window = 0 }
 
 infix 70 _soloTo_
 _soloTo_ : ℕ → ℕ → Job
-t soloTo b = record { top = t; bottom = b; mark = 1 }
+t soloTo b = record { top = t; bottom = b; mark = 1; window = 0 }
+
+infix 68 _inWindow_
+_inWindow_ : Job → ℕ → Job
+j inWindow v = record { top = j .top; bottom = j .bottom; mark = j .mark; window = v }
 
 -- a parent list, jobs, and what is expected of them
 record Example : Type 0 where
@@ -56,6 +63,7 @@ tableIn e =
       tops = map (λ (j : Job). j .top) (e .jobs);
       bottoms = map (λ (j : Job). j .bottom) (e .jobs);
       marks = map (λ (j : Job). j .mark) (e .jobs);
+      windows = map (λ (j : Job). j .window) (e .jobs);
     }
 
 -- what *Plan* does, with buffers of the right sizes
@@ -117,6 +125,28 @@ examples =
     ∷ record { parents = F ∷ 0 ∷ []; jobs = 0 to 1 ∷ 1 to 1 ∷ []; expected = plans ((0 ∷ 1 ∷ 1 ∷ 1 ∷ []) ∷ []) (1 ∷ 0 ∷ []) (1 ∷ 1 ∷ []) (1 ∷ 1 ∷ []) 1 0 1 }
     ∷ record { parents = F ∷ 0 ∷ 1 ∷ 2 ∷ []; jobs = 1 to 3 ∷ 2 to 3 ∷ []; expected = plans ((1 ∷ 0 ∷ 2 ∷ 3 ∷ []) ∷ []) (1 ∷ 0 ∷ []) (2 ∷ 2 ∷ []) (3 ∷ 3 ∷ []) 1 0 1 }
     ∷ record { parents = F ∷ 0 ∷ 1 ∷ 2 ∷ []; jobs = 2 to 3 ∷ 1 to 3 ∷ []; expected = plans ((0 ∷ 1 ∷ 2 ∷ 3 ∷ []) ∷ []) (1 ∷ 0 ∷ []) (2 ∷ 2 ∷ []) (3 ∷ 3 ∷ []) 1 0 1 }
+    -- windows (2026-05): two that share, in different windows, each alone on its shelf; the next of the same window is taken; the shelf of window 1 has the slots of
+    -- its own three jobs, and left of them in one array those of window 0; solo jobs and jobs 0-0 have their slots in their own windows; window 15 and, refused, 16 and 255, a solo
+    -- job's too; of one job 5 before 9 and 6 before 9; of two the first
+    ∷ record { parents = F ∷ 0 ∷ []; jobs = 1 to 1 ∷ 1 to 1 inWindow 1 ∷ []; expected = plans ((0 ∷ []) ∷ (1 ∷ []) ∷ []) (F ∷ F ∷ []) (F ∷ F ∷ []) (F ∷ F ∷ []) 0 2 2 }
+    ∷ record {
+      parents = F ∷ 0 ∷ [];
+      jobs = 1 to 1 inWindow 2 ∷ 1 to 1 ∷ 1 to 1 inWindow 2 ∷ 0 to 1 ∷ [];
+      expected = plans ((0 ∷ 2 ∷ 1 ∷ 1 ∷ []) ∷ (1 ∷ 3 ∷ 1 ∷ 1 ∷ []) ∷ []) (2 ∷ 3 ∷ 0 ∷ 1 ∷ []) (1 ∷ 1 ∷ 1 ∷ 1 ∷ []) (1 ∷ 1 ∷ 1 ∷ 1 ∷ []) 2 0 2;
+    }
+    ∷ record {
+      parents = F ∷ 0 ∷ 0 ∷ [];
+      jobs = 2 to 2 inWindow 1 ∷ 1 to 1 inWindow 1 ∷ 2 to 2 ∷ 2 to 2 inWindow 1 ∷ 1 to 1 ∷ [];
+      expected = plans ((0 ∷ 3 ∷ 2 ∷ 2 ∷ []) ∷ (1 ∷ []) ∷ (2 ∷ []) ∷ (4 ∷ []) ∷ []) (3 ∷ F ∷ F ∷ 0 ∷ F ∷ []) (2 ∷ F ∷ F ∷ 2 ∷ F ∷ []) (2 ∷ F ∷ F ∷ 2 ∷ F ∷ []) 1 3 0x12;
+    }
+    ∷ record { parents = F ∷ 0 ∷ []; jobs = 1 soloTo 1 inWindow 1 ∷ 1 to 1 inWindow 1 ∷ 1 to 1 inWindow 1 ∷ []; expected = plans ((0 ∷ []) ∷ (1 ∷ 2 ∷ 1 ∷ 1 ∷ []) ∷ []) (F ∷ 2 ∷ 1 ∷ []) (F ∷ 1 ∷ 1 ∷ []) (F ∷ 1 ∷ 1 ∷ []) 1 1 5 }
+    ∷ record { parents = F ∷ 0 ∷ []; jobs = 1 soloTo 1 ∷ 1 to 1 inWindow 1 ∷ 1 to 1 inWindow 1 ∷ []; expected = plans ((0 ∷ []) ∷ (1 ∷ 2 ∷ 1 ∷ 1 ∷ []) ∷ []) (F ∷ 2 ∷ 1 ∷ []) (F ∷ 1 ∷ 1 ∷ []) (F ∷ 1 ∷ 1 ∷ []) 1 1 1 }
+    ∷ record { parents = F ∷ 0 ∷ []; jobs = 1 to 1 inWindow 3 ∷ 0 to 0 inWindow 3 ∷ 0 to 0 ∷ 0 to 0 inWindow 3 ∷ []; expected = plans ((0 ∷ []) ∷ (1 ∷ []) ∷ (2 ∷ []) ∷ (3 ∷ []) ∷ []) (F ∷ F ∷ F ∷ F ∷ []) (F ∷ F ∷ F ∷ F ∷ []) (F ∷ F ∷ F ∷ F ∷ []) 0 4 5 }
+    ∷ record { parents = F ∷ 0 ∷ []; jobs = 0 to 1 inWindow 15 ∷ 0 to 1 inWindow 15 ∷ []; expected = plans ((0 ∷ 1 ∷ 1 ∷ 1 ∷ []) ∷ []) (1 ∷ 0 ∷ []) (1 ∷ 1 ∷ []) (1 ∷ 1 ∷ []) 1 0 1 }
+    ∷ record { parents = F ∷ []; jobs = 0 to 0 ∷ 0 to 0 inWindow 16 ∷ []; expected = turnsAway 9 1 }
+    ∷ record { parents = F ∷ []; jobs = 0 soloTo 0 inWindow 255 ∷ 0 to 1 ∷ []; expected = turnsAway 9 0 }
+    ∷ record { parents = F ∷ []; jobs = 0 to 1 inWindow 16 ∷ []; expected = turnsAway 5 0 }
+    ∷ record { parents = F ∷ 0 ∷ []; jobs = 1 to 0 inWindow 16 ∷ []; expected = turnsAway 6 0 }
     ∷ []
 
 -- ---- from bytes to bytes
@@ -137,6 +167,10 @@ jobOf t b = 0 ∷ 2 ∷ 0 ∷ 0 ∷ 0 ∷ t ∷ 0 ∷ 0 ∷ 0 ∷ b ∷ []
 
 soloOf : ℕ → ℕ → List ℕ
 soloOf t b = 0 ∷ 4 ∷ 0 ∷ 0 ∷ 0 ∷ t ∷ 0 ∷ 0 ∷ 0 ∷ b ∷ []
+
+-- a window by its two digits
+windowOf : ℕ → ℕ → ℕ → ℕ → List ℕ
+windowOf t b v w = 0 ∷ 5 ∷ 0 ∷ 0 ∷ 0 ∷ t ∷ 0 ∷ 0 ∷ 0 ∷ b ∷ v ∷ w ∷ []
 
 endOf : ℕ → ℕ → List ℕ
 endOf n m = 0 ∷ 3 ∷ 0 ∷ 0 ∷ 0 ∷ n ∷ 0 ∷ 0 ∷ 0 ∷ m ∷ []
@@ -207,6 +241,26 @@ printings =
     ∷ record { lines = firstLayout ∷ endOf 1 0 ∷ jobOf 0 1 ∷ []; spells = refusalOf 2 3 ∷ [] }
     ∷ record { lines = firstLayout ∷ endOf 1 0 ∷ layoutUnder 0 ∷ endOf 2 0 ∷ []; spells = refusalOf 2 3 ∷ [] }
     ∷ record { lines = firstLayout ∷ endOf 1 0 ∷ [] ∷ []; spells = refusalOf 1 3 ∷ [] }
+    -- windows (2026-05): solo jobs and a job without a window fill window 0, the last is alone in window 1; a pair of window 15; 9 before 2 and 7 (before 3: the last part of the fact), and before a wrong job of an
+    -- earlier line; but the end line's wrong job before it, and 1 before 9; lines too short and too long; the own line of a job behind a line with a window, and of such a job
+    ∷ record {
+      lines = firstLayout ∷ layoutUnder 0 ∷ soloOf 1 1 ∷ soloOf 1 1 ∷ jobOf 1 1 ∷ windowOf 1 1 0 1 ∷ endOf 2 4 ∷ [];
+      spells = singleOf 0 ∷ singleOf 1 ∷ singleOf 2 ∷ singleOf 3 ∷ totalsOf 0 4 0 6 ∷ [];
+    }
+    ∷ record {
+      lines = windowOf 0 1 0 15 ∷ firstLayout ∷ layoutUnder 0 ∷ windowOf 1 1 0 0 ∷ windowOf 1 1 0 15 ∷ endOf 2 3 ∷ [];
+      spells = pairOf 0 2 1 1 ∷ singleOf 1 ∷ totalsOf 1 1 0 2 ∷ [];
+    }
+    ∷ record { lines = firstLayout ∷ endOf 1 0 ∷ windowOf 0 0 1 0 ∷ []; spells = refusalOf 9 3 ∷ [] }
+    ∷ record { lines = firstLayout ∷ windowOf 0 0 15 15 ∷ []; spells = refusalOf 9 2 ∷ [] }
+    ∷ record { lines = firstLayout ∷ jobOf 1 0 ∷ windowOf 0 0 1 0 ∷ endOf 1 2 ∷ []; spells = refusalOf 9 3 ∷ [] }
+    ∷ record { lines = firstLayout ∷ jobOf 1 0 ∷ endOf 1 1 ∷ windowOf 0 0 1 0 ∷ []; spells = refusalOf 5 2 ∷ [] }
+    ∷ record { lines = firstLayout ∷ endOf 1 0 ∷ windowOf 0 0 0 15 ∷ []; spells = refusalOf 2 3 ∷ [] }
+    ∷ record { lines = firstLayout ∷ windowOf 16 0 1 0 ∷ endOf 1 1 ∷ []; spells = refusalOf 1 2 ∷ [] }
+    ∷ record { lines = firstLayout ∷ (0 ∷ 5 ∷ 0 ∷ 0 ∷ 0 ∷ 0 ∷ 0 ∷ 0 ∷ 0 ∷ 0 ∷ []) ∷ endOf 1 1 ∷ []; spells = refusalOf 1 2 ∷ [] }
+    ∷ record { lines = firstLayout ∷ (0 ∷ 2 ∷ 0 ∷ 0 ∷ 0 ∷ 0 ∷ 0 ∷ 0 ∷ 0 ∷ 0 ∷ 0 ∷ 0 ∷ []) ∷ endOf 1 1 ∷ []; spells = refusalOf 1 2 ∷ [] }
+    ∷ record { lines = firstLayout ∷ windowOf 0 0 0 1 ∷ jobOf 1 0 ∷ endOf 1 2 ∷ []; spells = refusalOf 5 3 ∷ [] }
+    ∷ record { lines = firstLayout ∷ layoutUnder 0 ∷ jobOf 0 0 ∷ windowOf 1 0 0 1 ∷ endOf 2 2 ∷ []; spells = refusalOf 6 4 ∷ [] }
     ∷ []
 
 -- ---- stretches
@@ -250,13 +304,17 @@ stretched e =
 
 -- ---- the fact
 
--- each table is planned or refused as expected, each printing is as spelled, each stretch is as written, the bakehouse has its running order, and the lookups of
--- jobs 4, 1 and 2 visit 7, 7 and 11 cells
+-- each table is planned or refused as expected, each printing is as spelled, each stretch is as written, the bakehouse has its running order and its slots, equal leaves by
+-- place, the lookups of jobs 4, 1 and 2 visit 7, 7 and 11 cells, an empty span visits one cell, inside a shelf and at its ends, and window 16 is refusal 9 on every
+-- line, whatever the table so far, the top and the bottom
 examples-hold :
     (map planned examples ≡ map (λ (e : Example). e .expected) examples)
     × (map (λ (e : Printing). runBytes (flatMap spelled (e .lines))) printings ≡ map (λ (e : Printing). flatMap spelled (e .spells)) printings)
     × (map stretched stretches ≡ stretches)
     × (runningOrder (tableIn bakehouse) ≡ 4 ∷ 0 ∷ 1 ∷ 2 ∷ 3 ∷ [])
+    × (map (slot (tableIn bakehouse)) (4 ∷ 0 ∷ 1 ∷ 2 ∷ 3 ∷ []) ≡ 0 ∷ 1 ∷ 2 ∷ 3 ∷ 4 ∷ [])
     × (map (lookupVisits (tableIn bakehouse)) (4 ∷ 1 ∷ 2 ∷ []) ≡ 7 ∷ 7 ∷ 11 ∷ [])
-unfolding numbersFrom numbers elem indexOf lastD anyOf allOf select countWhere find total insertBy sortBy rightParent layoutsFrom treeVerdict ascend ancestors ancestorOrSelf depth children orSelf leavesWithin leaves firstLeaf lastLeaf solo upTo pathFrom path ownPath bare asks highest highestDepth shares sharedLayouts highestShared deepestShared bottomLeaf jobVerdict earlier runningOrder place leftward slotOrder slot without greedyStep greedySteps greedy compatible passes levelsFrom levels cellVisits visits asksFor askedSlots askedFrom askedTo lookupVisits passVisits cellCount lentVerdict jobsVerdict planVerdict partnerIn pairCount singleCount partners upper upperLayouts printed printedLayouts pairs singles passNumbers outcome _to_ _soloTo_ tableIn planned F bakehouse examples flatMap headD isDigit digitValue numberAfter lead lines frameOfKind frameOf isEnd endWithoutLayout onItsLine contentVerdict frameVerdict extended withOwnLine unlessRefused readFrame readLines readTable digit hex pairLine singleLine totalsLine passLine planBytes refusalBytes readingBytes runBytes spelled firstLayout layoutUnder jobOf soloOf endOf pairOf singleOf totalsOf refusalOf printings agreement startsIn leading stretchOf dropped stretched stretches
-examples-hold = (refl, refl, refl, refl, refl)
+    × (map (λ (s : ℕ). visits 3 s s) (0 ∷ 3 ∷ 4 ∷ 8 ∷ []) ≡ 1 ∷ 1 ∷ 1 ∷ 1 ∷ [])
+    × ((line : ℕ) (tb : Table) (own : List ℕ) (ended : Bool) (t b : ℕ) → frameVerdict line tb own ended (windowFrame t b 16) ≡ refused 9 line)
+unfolding numbersFrom numbers elem indexOf lastD anyOf allOf select countWhere find total insertBy sortBy rightParent layoutsFrom treeVerdict ascend ancestors ancestorOrSelf depth children orSelf leavesWithin leaves firstLeaf lastLeaf solo sameWindow upTo pathFrom path ownPath bare asks highest highestDepth shares sharedLayouts highestShared deepestShared bottomLeaf jobVerdict earlier runningOrder place leftward windowJobs windowSize slotOrder slot without greedyStep greedySteps greedy compatible passes levelsFrom levels cellVisits visits asksFor askedSlots askedFrom askedTo lookupVisits passVisits cellCount lentVerdict jobsVerdict planVerdict partnerIn pairCount singleCount partners upper upperLayouts printed printedLayouts pairs singles passNumbers outcome _to_ _soloTo_ _inWindow_ tableIn planned F bakehouse examples flatMap headD isDigit digitValue numberAfter lead lines frameOfKind frameOf isEnd beyondWindows endWithoutLayout onItsLine contentVerdict frameVerdict extended withOwnLine unlessRefused readFrame readLines readTable digit hex pairLine singleLine totalsLine passLine planBytes refusalBytes readingBytes runBytes spelled firstLayout layoutUnder jobOf soloOf windowOf endOf pairOf singleOf totalsOf refusalOf printings agreement startsIn leading stretchOf dropped stretched stretches
+examples-hold = (refl, refl, refl, refl, refl, refl, refl, λ line tb own ended t b. refl)

@@ -5,7 +5,7 @@ use mathlib.Core.Option.{Option, none, some}
 use mathlib.Core.List.{List, [], _∷_}
 use lib.ListN.{length}
 use Rattle.model.specs.Lists.{find, without}
-use Rattle.model.specs.Jobs.{Table, solo, shares}
+use Rattle.model.specs.Jobs.{Table, solo, sameWindow, shares}
 use Rattle.model.specs.Order.{runningOrder}
 
 -- a pass of the press: two jobs, the earlier first, or one
@@ -29,9 +29,9 @@ unfoldable pub greedy : (ℕ → ℕ → Bool) → List ℕ → List Pass
 greedy compatible vs = greedySteps (length vs) compatible vs
 
 module _ (tb : Table) where
-  -- neither is solo, and they share; a job 0-0 shares with none
+  -- neither is solo, they are in one window, and they share; a job 0-0 shares with none
   unfoldable pub compatible : ℕ → ℕ → Bool
-  compatible i j = not (solo tb i) && not (solo tb j) && shares tb i j
+  compatible i j = not (solo tb i) && not (solo tb j) && sameWindow tb i j && shares tb i j
 
   -- the plan: the greedy rule over the running order
   unfoldable pub passes : List Pass

@@ -1,4 +1,5 @@
--- Jobs as downward paths, and sharing (docs/RULES.md, 4; document 01, "The tree and the running order", as 2026-01 and 2026-02 changed it; 000, Definition 3).
+-- Jobs as downward paths, their windows, and sharing (docs/RULES.md, 4; document 01, "The tree and the running order", as 2026-01, 2026-02 and 2026-05 changed it; 000,
+-- Definition 3).
 use Prim.Native.Nat.{ℕ}
 use mathlib.Core.Bool.{Bool, cond, not, _&&_, _||_}
 use mathlib.Core.List.{List, [], _∷_, headD}
@@ -8,20 +9,25 @@ use Rattle.model.specs.Lists.{elem, lastD, anyOf, select, without}
 use Rattle.model.specs.Verdict.{Verdict, refuseIf, _then_}
 use Rattle.model.specs.Tree.{FFFF, ancestors, ancestorOrSelf, depth, firstLeaf}
 
--- a table: the parents of its layouts, the tops, bottoms and solo marks of its jobs
+-- a table: the parents of its layouts, the tops, bottoms, solo marks and windows of its jobs
 pub record Table : Type 0 where
   pub parents : List ℕ
   pub tops : List ℕ
   pub bottoms : List ℕ
   pub marks : List ℕ
+  pub windows : List ℕ
 
 -- a table by its columns
-abbrev pub tableOf : List ℕ → List ℕ → List ℕ → List ℕ → Table
-tableOf ps ts bs ms = record { parents = ps; tops = ts; bottoms = bs; marks = ms }
+abbrev pub tableOf : List ℕ → List ℕ → List ℕ → List ℕ → List ℕ → Table
+tableOf ps ts bs ms ws = record { parents = ps; tops = ts; bottoms = bs; marks = ms; windows = ws }
 
 -- at most 4,096 jobs
 abbrev pub jobLimit : ℕ
 jobLimit = 4096
+
+-- windows are numbered from 0 to 15
+abbrev pub windowLimit : ℕ
+windowLimit = 16
 
 module _ (tb : Table) where
   -- M, the number of jobs
@@ -37,6 +43,14 @@ module _ (tb : Table) where
   -- a mark other than 0 counts as solo
   unfoldable pub solo : ℕ → Bool
   solo j = not (eqb (getD (tb .marks) j 0) 0)
+
+  -- the printing window that a job belongs to
+  abbrev pub window : ℕ → ℕ
+  window j = getD (tb .windows) j 0
+
+  -- two jobs are in one window
+  unfoldable pub sameWindow : ℕ → ℕ → Bool
+  sameWindow i j = eqb (window i) (window j)
 
 -- a list up to and with t
 unfoldable pub upTo : ℕ → List ℕ → List ℕ
@@ -92,7 +106,9 @@ module _ (tb : Table) where
   unfoldable pub bottomLeaf : ℕ → ℕ
   bottomLeaf j = firstLeaf (tb .parents) (bottom tb j)
 
--- 5, a top or bottom that is no layout; 6, a bottom not at or below its top
-unfoldable pub jobVerdict : List ℕ → ℕ → ℕ → ℕ → Verdict
-jobVerdict ps t b place =
-    refuseIf (leb (length ps) t || leb (length ps) b) 5 place then refuseIf (not (ancestorOrSelf ps t b)) 6 place
+-- 5, a top or bottom that is no layout; 6, a bottom not at or below its top; 9, a window above 15
+unfoldable pub jobVerdict : List ℕ → ℕ → ℕ → ℕ → ℕ → Verdict
+jobVerdict ps t b v place =
+    refuseIf (leb (length ps) t || leb (length ps) b) 5 place
+    then refuseIf (not (ancestorOrSelf ps t b)) 6 place
+    then refuseIf (leb windowLimit v) 9 place

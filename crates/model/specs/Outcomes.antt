@@ -30,16 +30,17 @@ SettleOutcome parents depths firsts lasts =
     SettledAs (settleVerdict parents (length depths) (length firsts) (length lasts)) parents depths firsts lasts
 
 -- *Read a table* under the verdict v on the buffers' sizes, for the reading t of the bytes: N and M, and the table in the buffers
-pub record ReadAs (v : Verdict) (t : Reading) (parents tops bottoms marks : List ℕ) (r : TableRead) (parents′ tops′ bottoms′ marks′ : List ℕ) : Type 0 where
+pub record ReadAs (v : Verdict) (t : Reading) (parents tops bottoms marks windows : List ℕ) (r : TableRead) (parents′ tops′ bottoms′ marks′ windows′ : List ℕ) : Type 0 where
   pub answered : tableAnswer r ≡ readAnswer v t
   pub parents-hold : parents′ ≡ readCells v FFFF parents (tableRead t .parents)
   pub tops-hold : tops′ ≡ readCells v FFFF tops (tableRead t .tops)
   pub bottoms-hold : bottoms′ ≡ readCells v FFFF bottoms (tableRead t .bottoms)
   pub marks-hold : marks′ ≡ readCells v 0 marks (tableRead t .marks)
+  pub windows-hold : windows′ ≡ readCells v 0 windows (tableRead t .windows)
 
-abbrev pub ReadOutcome : List ℕ → List ℕ → List ℕ → List ℕ → List ℕ → TableRead → List ℕ → List ℕ → List ℕ → List ℕ → Type 0
-ReadOutcome bytes parents tops bottoms marks =
-    ReadAs (buffersVerdict (length parents) (length tops) (length bottoms) (length marks)) (readTable bytes) parents tops bottoms marks
+abbrev pub ReadOutcome : List ℕ → List ℕ → List ℕ → List ℕ → List ℕ → List ℕ → TableRead → List ℕ → List ℕ → List ℕ → List ℕ → List ℕ → Type 0
+ReadOutcome bytes parents tops bottoms marks windows =
+    ReadAs (buffersVerdict (length parents) (length tops) (length bottoms) (length marks) (length windows)) (readTable bytes) parents tops bottoms marks windows
 
 -- *Plan* under its verdict v: partners, upper and printed layouts, totals and work cells, and, where totals are given back, that no rival plan beats what was handed back
 pub record PlannedAs (v : Verdict) (tb : Table) (partners uppers printed work : List ℕ) (r : Planned) (partners′ uppers′ printed′ work′ : List ℕ) : Type 0 where
@@ -50,9 +51,9 @@ pub record PlannedAs (v : Verdict) (tb : Table) (partners uppers printed work : 
   pub work-holds : work′ ≡ lent v work (replicate Planning.workCells 0 ++ drop Planning.workCells work)
   pub maximum : (t : Totals) → r ≡ planned.Done t → MaximumAtEveryCut tb partners′ (t .pairs) (t .singles)
 
-abbrev pub PlanOutcome : List ℕ → List ℕ → List ℕ → List ℕ → List ℕ → List ℕ → List ℕ → List ℕ → Planned → List ℕ → List ℕ → List ℕ → List ℕ → Type 0
-PlanOutcome parents tops bottoms marks partners uppers printed work =
-    PlannedAs (Planning.planVerdict (tableOf parents tops bottoms marks) (length partners) (length uppers) (length printed) (length work)) (tableOf parents tops bottoms marks) partners uppers printed work
+abbrev pub PlanOutcome : List ℕ → List ℕ → List ℕ → List ℕ → List ℕ → List ℕ → List ℕ → List ℕ → List ℕ → Planned → List ℕ → List ℕ → List ℕ → List ℕ → Type 0
+PlanOutcome parents tops bottoms marks windows partners uppers printed work =
+    PlannedAs (Planning.planVerdict (tableOf parents tops bottoms marks windows) (length partners) (length uppers) (length printed) (length work)) (tableOf parents tops bottoms marks windows) partners uppers printed work
 
 -- *Whole run*: the length answered, and the output as it is left. That *Plan* accepts what was read, and that the lines are what it hands back, are laws of the crate
 -- `run`: Sound `read-accepted`, OfPlan `run-prints-plan`

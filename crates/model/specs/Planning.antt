@@ -1,4 +1,4 @@
--- What *Plan* turns away and what it gives back (docs/RULES.md, 11 and 6; document 01, "What each operation turns away").
+-- What *Plan* turns away and what it gives back (docs/RULES.md, 11 and 6; document 01, "What each operation turns away", as 2026-02 and 2026-05 changed it).
 use Prim.Native.Nat.{ℕ}
 use mathlib.Core.Bool.{cond, not, _||_}
 use mathlib.Core.List.{List, [], _∷_, map, foldr}
@@ -7,30 +7,31 @@ use lib.Dec.{eqb, ltb}
 use Rattle.model.specs.Lists.{numbers, total}
 use Rattle.model.specs.Verdict.{Verdict, accepted, refuseIf, _then_}
 use Rattle.model.specs.Tree.{FFFF, layoutLimit, treeVerdict}
-use Rattle.model.specs.Jobs.{Table, jobs, jobLimit, top, bottom, jobVerdict, highestShared, deepestShared}
+use Rattle.model.specs.Jobs.{Table, jobs, jobLimit, top, bottom, window, jobVerdict, highestShared, deepestShared}
 use Rattle.model.specs.Greedy.{Pass, pair, single, passes}
 
 -- work cells that *Plan* needs
 abbrev pub workCells : ℕ
 workCells = 32768
 
--- 8: tops, bottoms and marks of unequal length, a result shorter than tops, or too few work cells
+-- 8: tops, bottoms, marks and windows of unequal length, a result shorter than tops, or too few work cells
 unfoldable pub lentVerdict : Table → ℕ → ℕ → ℕ → ℕ → Verdict
 lentVerdict tb partners uppers printed work =
     refuseIf
     (not (eqb (jobs tb) (length (tb .bottoms)))
     || not (eqb (jobs tb) (length (tb .marks)))
+    || not (eqb (jobs tb) (length (tb .windows)))
     || ltb partners (jobs tb)
     || ltb uppers (jobs tb)
     || ltb printed (jobs tb)
     || ltb work workCells)
     8 0
 
--- 5 and 6: the smallest job that is wrong, and of it 5 before 6
+-- 5, 6 and 9: the smallest job that is wrong, and of it 5 before 6 before 9
 unfoldable pub jobsVerdict : Table → Verdict
 jobsVerdict tb =
     foldr _then_ accepted
-    (map (λ (j : ℕ). jobVerdict (tb .parents) (top tb j) (bottom tb j) j) (numbers (jobs tb)))
+    (map (λ (j : ℕ). jobVerdict (tb .parents) (top tb j) (bottom tb j) (window tb j) j) (numbers (jobs tb)))
 
 -- the verdict of *Plan*, given the lengths of the results and of the work cells
 unfoldable pub planVerdict : Table → ℕ → ℕ → ℕ → ℕ → Verdict

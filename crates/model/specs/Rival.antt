@@ -1,5 +1,5 @@
--- Rival plans and the cut (docs/RULES.md, 14; document 01, "Rival plans and the cut"). A plan is here a set of pairs of job numbers: a matching of the jobs in
--- the graph of who shares with whom. A rival plan is any matching, a cut the end of a prefix of the running order.
+-- Rival plans and the cut (docs/RULES.md, 14; document 01, "Rival plans and the cut", as 2026-05 changed it). A plan is here a set of pairs of job numbers: a matching of
+-- the jobs in the graph of who is compatible with whom. A rival plan is any matching, a cut the end of a prefix of the running order.
 use Prim.Native.Nat.{ℕ, _+_, _*_, _<_, _≤_}
 use mathlib.Core.Path.{_≡_}
 use mathlib.Core.Logic.{_≢_}
@@ -9,7 +9,7 @@ use lib.ListN.{length, getD}
 use lib.Dec.{T, eqb, ltb}
 use Rattle.model.specs.Lists.{numbers, All, AllPairs, anyOf, countWhere, select}
 use Rattle.model.specs.Tree.{FFFF}
-use Rattle.model.specs.Jobs.{Table, jobs, solo, shares}
+use Rattle.model.specs.Jobs.{Table, jobs, solo, sameWindow, shares}
 use Rattle.model.specs.Order.{place}
 
 -- two job numbers
@@ -24,13 +24,14 @@ pub record NoCommonJob (p q : Pair) : Type 0 where
   pub other-one : p .other ≢ q .one
   pub other-other : p .other ≢ q .other
 
--- the rules of a pair: two different jobs of the table, neither solo, that share
+-- the rules of a pair: two different jobs of the table, neither solo, in one window, that share
 pub record Rules (tb : Table) (p : Pair) : Type 0 where
   pub one-known : p .one < jobs tb
   pub other-known : p .other < jobs tb
   pub differ : p .one ≢ p .other
   pub one-not-solo : T (not (solo tb (p .one)))
   pub other-not-solo : T (not (solo tb (p .other)))
+  pub same-window : T (sameWindow tb (p .one) (p .other))
   pub share : T (shares tb (p .one) (p .other))
 
 -- a rival plan, which is any matching: pairs that keep the rules, no job in two of them

@@ -1,5 +1,5 @@
--- The visits of a lookup (docs/RULES.md, 7; document 01, "The shelf and its cells"). The shelf is a segment tree over the slots, a cell one of its nodes, a
--- lookup a query for the smallest place in a span of slots (range minimum).
+-- The visits of a lookup (docs/RULES.md, 7; document 01, "The shelf and its cells", as 2026-05 changed it). The shelf of a window is a segment tree over its slots, a cell
+-- one of its nodes, a lookup a query for the smallest place in a span of slots (range minimum).
 use Prim.Native.Nat.{ℕ, zero, suc, _+_, _^_}
 use mathlib.Core.Bool.{Bool, cond, _||_, _&&_}
 use mathlib.Core.List.{List, headD}
@@ -7,8 +7,8 @@ use lib.ListN.{length, getD}
 use lib.Dec.{leb}
 use Rattle.model.specs.Lists.{numbers, select, total}
 use Rattle.model.specs.Tree.{firstLeaf, lastLeaf}
-use Rattle.model.specs.Jobs.{Table, jobs, asks, highest, bottomLeaf}
-use Rattle.model.specs.Order.{slotOrder}
+use Rattle.model.specs.Jobs.{Table, window, asks, highest, bottomLeaf}
+use Rattle.model.specs.Order.{windowSize, slotOrder}
 use Rattle.model.specs.Greedy.{Pass, pair, single, passes}
 
 -- the smallest k from k on with m ≤ 2 ^ k, in n steps
@@ -35,15 +35,15 @@ unfoldable pub visits : ℕ → ℕ → ℕ → ℕ
 visits k from to = cond (leb to from) 1 (cellVisits k 0 from to)
 
 module _ (tb : Table) where
-  -- the lookup of job i asks for slot s: the bottom of the slot's job has its first leaf in the leaf span of the highest layout of i
+  -- the lookup of job i asks for slot s of its window: the bottom of the slot's job has its first leaf in the leaf span of the highest layout of i
   unfoldable pub asksFor : ℕ → ℕ → Bool
   asksFor i s =
-      leb (firstLeaf (tb .parents) (highest tb i)) (bottomLeaf tb (getD (slotOrder tb) s 0))
-      && leb (bottomLeaf tb (getD (slotOrder tb) s 0)) (lastLeaf (tb .parents) (highest tb i))
+      leb (firstLeaf (tb .parents) (highest tb i)) (bottomLeaf tb (getD (slotOrder tb (window tb i)) s 0))
+      && leb (bottomLeaf tb (getD (slotOrder tb (window tb i)) s 0)) (lastLeaf (tb .parents) (highest tb i))
 
   -- every slot that it asks for, in order
   unfoldable pub askedSlots : ℕ → List ℕ
-  askedSlots i = select (asksFor i) (numbers (jobs tb))
+  askedSlots i = select (asksFor i) (numbers (windowSize tb (window tb i)))
 
   -- slots stand by first leaf, so these are a span (schedule_laws/Asked `asked-range`): from the first of them up to as many more as there are
   unfoldable pub askedFrom : ℕ → ℕ
@@ -52,9 +52,9 @@ module _ (tb : Table) where
   unfoldable pub askedTo : ℕ → ℕ
   askedTo i = askedFrom i + length (askedSlots i)
 
-  -- the visits of the job's lookup; a solo job and a job 0-0 make none
+  -- the visits of the job's lookup, in the shelf of its window; a solo job and a job 0-0 make none
   unfoldable pub lookupVisits : ℕ → ℕ
-  lookupVisits i = cond (asks tb i) (visits (levels (jobs tb)) (askedFrom i) (askedTo i)) 0
+  lookupVisits i = cond (asks tb i) (visits (levels (windowSize tb (window tb i))) (askedFrom i) (askedTo i)) 0
 
   -- the job that is free at its turn in a pass
   unfoldable pub passVisits : Pass → ℕ

@@ -1,8 +1,8 @@
 // The numbers and answers that every part of the planner speaks in, and, in specs/, what document 01 says of them.
 ghost use mathlib.Core.Path.{_≡_};
-ghost use Prim.Native.Nat.{_+_, _<_};
 ghost use lib.Dec.{eqb, ltb};
 ghost use Rattle.model.specs.Tree.{FFFF};
+ghost use Rattle.model.specs.Jobs.{windowLimit};
 
 // What stands for no layout, no job and no place: FFFF in the table and in lent number cells.
 pub const ABSENT: u16 = 0xFFFF;
@@ -51,6 +51,21 @@ impl JobNumber {
     pub const LIMIT: usize = 4096;
 }
 
+// The number of a printing window.
+pub struct WindowNumber(pub u8);
+
+impl WindowNumber {
+    // Windows 0 to 15.
+    pub const LIMIT: usize = 16;
+
+    // Whether there is such a window.
+    pub fn is_known(self) -> bool
+        ensures { λ r. ⌜ r ≡ ltb (self .0) windowLimit ⌝ }
+    {
+        (self.0 as usize) < WindowNumber::LIMIT
+    }
+}
+
 // A place in the running order (000: a position in the bottom-up enumeration).
 pub struct Rank(pub u16);
 
@@ -75,21 +90,6 @@ impl Rank {
     {
         self.0 < other.0
     }
-
-    // Whether it is one of so many places, counted from 0.
-    pub fn is_among(self, places: usize) -> bool
-        ensures { λ r. ⌜ r ≡ ltb (self .0) places ⌝ }
-    {
-        (self.0 as usize) < places
-    }
-
-    // The place after it.
-    pub fn next(self) -> Rank
-        requires { ⌜ self .0 < FFFF ⌝ }
-        ensures { λ r. ⌜ r .0 ≡ self .0 + 1 ⌝ }
-    {
-        Rank(self.0 + 1)
-    }
 }
 
 // Why an input is turned away: document 01's number, and the place.
@@ -103,6 +103,7 @@ pub enum Frame {
     Layout(LayoutNumber),
     Job(LayoutNumber, LayoutNumber),
     Solo(LayoutNumber, LayoutNumber),
+    Windowed(LayoutNumber, LayoutNumber, WindowNumber),
     // The counts are whole words: a frame that fits one word would be passed packed into it, and taken apart again.
     End(usize, usize),
 }

@@ -8,10 +8,10 @@ use native.Mathlib.Numerals.{add-one}
 use native.Mathlib.Omega.{arith}
 use lib.ListN.{length, getD, drop, length-drop, drop-of-length-le}
 use lib.Seq.{drop-drop}
-use Rattle.model.specs.Table.{Line, lines, firstOf, firstLine, layoutFrame, jobFrame, soloFrame, endFrame, frameOf}
+use Rattle.model.specs.Table.{Line, lines, firstOf, firstLine, layoutFrame, jobFrame, soloFrame, windowFrame, endFrame, frameOf}
 use Rattle.model.specs.Table as Format
 use Rattle.frame.specs.Fields.{endsAfter}
-use Rattle.frame.specs.Lines.{width, next-line, width-by-end}
+use Rattle.frame.specs.Lines.{width, width-some, next-line, jobWidth, width-by-end}
 
 -- the line with the number `line`, where it holds a job, and after it the lines of later jobs; no job is looked for behind the end, or behind a line that is no frame
 unfoldable pub jobLine : ℕ → List ℕ → Option Format.Frame → List ℕ
@@ -19,6 +19,7 @@ jobLine line later none = []
 jobLine line later (some (layoutFrame p)) = later
 jobLine line later (some (jobFrame t b)) = line ∷ later
 jobLine line later (some (soloFrame t b)) = line ∷ later
+jobLine line later (some (windowFrame t b v)) = line ∷ later
 jobLine line later (some (endFrame n m)) = []
 
 -- the lines of the jobs up to the end, of lines that are counted from `line`
@@ -39,12 +40,6 @@ abbrev pub ownLinesFrom : List ℕ → ℕ → ℕ → List ℕ
 ownLinesFrom bytes at line = jobLines line (lines (drop at bytes))
 
 -- ---- the lines from one on
-
-width-some : (f : Format.Frame) → 0 < width f
-width-some (layoutFrame p) = omega arith
-width-some (jobFrame t b) = omega arith
-width-some (soloFrame t b) = omega arith
-width-some (endFrame n m) = omega arith
 
 module _ (bytes : List ℕ) (at line : ℕ) where
   -- no bytes are left
@@ -72,22 +67,32 @@ module _ (bytes : List ℕ) (at line : ℕ) where
 
 -- ---- the 0A of a line
 
--- the lines of the jobs from `at` on, by where the line there has its 0A: a layout's has it after 6 bytes, a job's after 10
+pub job-wide : (s : List ℕ) → (11 ≤ jobWidth s) × (jobWidth s ≤ 13)
+job-wide s = go (endsAfter 10 s)
+  where
+    go : (t : Bool) → (11 ≤ cond t 11 13) × (cond t 11 13 ≤ 13)
+    go true = omega arith
+    go false = omega arith
+
+-- the lines of the jobs from `at` on, by where the line there has its 0A: a layout's has it after 6 bytes
 abbrev byEnd : List ℕ → ℕ → ℕ → List ℕ
 byEnd bytes at line =
-    cond (endsAfter 6 (drop at bytes)) (ownLinesFrom bytes (at + 7) (suc line)) (line ∷ ownLinesFrom bytes (at + 11) (suc line))
+    cond (endsAfter 6 (drop at bytes)) (ownLinesFrom bytes (at + 7) (suc line)) (line ∷ ownLinesFrom bytes (at + jobWidth (drop at bytes)) (suc line))
 
 -- a frame that has a job in it or behind it is no end, so its width tells a layout from a job
-by-width : (f : Format.Frame) (line k : ℕ) (later : ℕ → List ℕ) (t : Bool) → 0 < getD (jobLine line (later (width f)) (some f)) k 0
-    → width f ≡ cond t 7 11 → jobLine line (later (width f)) (some f) ≡ cond t (later 7) (line ∷ later 11)
+by-width : (f : Format.Frame) (line k : ℕ) (later : ℕ → List ℕ) (t u : Bool) → 0 < getD (jobLine line (later (width f)) (some f)) k 0
+    → width f ≡ cond t 7 (cond u 11 13) → jobLine line (later (width f)) (some f) ≡ cond t (later 7) (line ∷ later (cond u 11 13))
 unfolding jobLine
-by-width (layoutFrame p) line k later true h e = refl
-by-width (layoutFrame p) line k later false h e = absurd (omega arith)
-by-width (jobFrame t b) line k later true h e = absurd (omega arith)
-by-width (jobFrame t b) line k later false h e = refl
-by-width (soloFrame t b) line k later true h e = absurd (omega arith)
-by-width (soloFrame t b) line k later false h e = refl
-by-width (endFrame n m) line k later t h e = absurd (omega arith)
+by-width (layoutFrame p) line k later true u h e = refl
+by-width (layoutFrame p) line k later false true h e = absurd (omega arith)
+by-width (layoutFrame p) line k later false false h e = absurd (omega arith)
+by-width (jobFrame t b) line k later true u h e = absurd (omega arith)
+by-width (jobFrame t b) line k later false u h e = ap (λ (w : ℕ). line ∷ later w) e
+by-width (soloFrame t b) line k later true u h e = absurd (omega arith)
+by-width (soloFrame t b) line k later false u h e = ap (λ (w : ℕ). line ∷ later w) e
+by-width (windowFrame t b v) line k later true u h e = absurd (omega arith)
+by-width (windowFrame t b v) line k later false u h e = ap (λ (w : ℕ). line ∷ later w) e
+by-width (endFrame n m) line k later t u h e = absurd (omega arith)
 
 -- as long as a job is left, the 0A tells
 by-end : (bytes : List ℕ) (at line k : ℕ) → 0 < getD (ownLinesFrom bytes at line) k 0 → ownLinesFrom bytes at line ≡ byEnd bytes at line
@@ -98,7 +103,7 @@ by-end bytes at line k h = go (frameAt bytes at) refl
     go (some f) e =
         let first = frame-lines bytes at line f e in
         first
-        ∙ by-width f line k (λ (w : ℕ). ownLinesFrom bytes (at + w) (suc line)) (endsAfter 6 (drop at bytes)) (rw first at h) (width-by-end (drop at bytes) f e)
+        ∙ by-width f line k (λ (w : ℕ). ownLinesFrom bytes (at + w) (suc line)) (endsAfter 6 (drop at bytes)) (endsAfter 10 (drop at bytes)) (rw first at h) (width-by-end (drop at bytes) f e)
 
 -- ---- looking for a job
 
@@ -123,12 +128,12 @@ module _ (bytes : List ℕ) (job at line before : ℕ) (there : 0 < ownLine byte
   found e z = l .same ∙ rw (left, e, z) refl
 
   -- it stands behind this job
-  pub past-job : endsAfter 6 (drop at bytes) ≡ false → (before ≡ 0 → ⊥) → Looking bytes job (at + 11) (line + 1) (before - 1)
+  pub past-job : endsAfter 6 (drop at bytes) ≡ false → (before ≡ 0 → ⊥) → Looking bytes job (at + jobWidth (drop at bytes)) (line + 1) (before - 1)
   past-job e f =
       let more : before ≡ suc (before - 1) = omega arith in
       record {
-        few = omega (arith, l .few);
-        same = l .same ∙ rw (left, e, add-one) (ap (λ (k : ℕ). getD (line ∷ ownLinesFrom bytes (at + 11) (suc line)) k 0) more);
+        few = omega (arith, l .few, job-wide (drop at bytes));
+        same = l .same ∙ rw (left, e, add-one) (ap (λ (k : ℕ). getD (line ∷ ownLinesFrom bytes (at + jobWidth (drop at bytes)) (suc line)) k 0) more);
       }
 
   -- bytes are left until it is found

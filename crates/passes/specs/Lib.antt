@@ -2,3 +2,4 @@ pub mod Read
 pub mod OfTable
 pub mod PlanPass
 pub mod Making
+pub mod WindowShelves

@@ -6,13 +6,11 @@ use mathlib.Core.Bool.{true}
 use mathlib.Core.List.{List, [], _∷_, map, List·Memᴰ as Mem, List·Memᴰ·head as here, List·Memᴰ·tail as there}
 use native.Mathlib.Omega.{arith}
 use lib.ListN.{length, getD, take}
-use lib.Seq.{getD-take}
 use lib.Dec.{eqb}
 use borrow.Author.Tests.{eq-eqb, ne-eqb, eqb-true, eqb-false}
 use Rattle.model.specs.Lists.{numbers}
 use Rattle.model.specs.Tree.{FFFF}
 use Rattle.model.specs.Jobs.{Table, jobs, deepestShared}
-use Rattle.model.specs.Order.{runningOrder}
 use Rattle.model.specs.Greedy.{Pass, pair, single, compatible, passes}
 use Rattle.model.specs.Planning.{pairs}
 use Rattle.model.specs.Visits.{cellCount}
@@ -27,18 +25,18 @@ use Rattle.matching.specs.Passes.{pairsIn, vertices, mem-greedy}
 use Rattle.matching.specs.Partners.{passes-compatible, passes-length, jobs-counted}
 use Rattle.matching.specs.Compatible.{compatible-true}
 use Rattle.schedule.specs.Schedule.{fits, passesByPlace}
-use Rattle.schedule.specs.InWork.{passOf, passAt, Swept}
-use Rattle.schedule.specs.OfTable.{jobAt, scheduleOf, Prepared}
-use Rattle.schedule_laws.specs.Places.{job-known}
+use Rattle.schedule.specs.InWork.{jobIn, passOf, passAt, Swept}
+use Rattle.schedule.specs.OfTable.{jobAt, scheduleOf, orderCells, Prepared}
+use Rattle.schedule_laws.specs.Places.{job-known, job-in}
 use Rattle.schedule_laws.specs.Theorem.{places-are, schedule-passes, schedule-length, schedule-pairs, schedule-visits}
-use Rattle.passes.specs.Read.{openerIn, mateIn, jobIn, PassCells, PairRead, SingleRead, PassRead}
+use Rattle.passes.specs.Read.{openerIn, mateIn, PassCells, PairRead, SingleRead, PassRead}
 use Rattle.passes.specs.declared.Pass as declared
 use Rattle.passes.specs.declared.Pass.the-variants as pass
 
 -- the plan of a table stands in the work cells: its running order, and its passes by place
 pub record PlanIn (tb : Table) (work : List ℕ) : Type 0 where
   pub room : 6 * jobs tb ≤ length work
-  pub order-is : take (jobs tb) work ≡ runningOrder tb
+  pub order-is : take (jobs tb) work ≡ orderCells tb
   pub passes-are : map (passAt (jobs tb) work) (numbers (length (passes tb))) ≡ passesByPlace (scheduleOf tb)
 
 -- the pass r is that of the plan, by job numbers, on its deepest shared layout
@@ -85,19 +83,19 @@ pass-among (x ∷ xs) (suc k) d h = among-more x (getD xs k d) xs (pass-among xs
 
 module _ (tb : Table) (a : Accepted tb) where
   -- what a sweep over the prepared work cells leaves
-  pub swept-plan : (old new : List ℕ) (p v : ℕ) → 6 * jobs tb ≤ length old → Prepared tb old → Swept (jobs tb) old p v new → PlanIn tb new
-  swept-plan old new p v room ready s =
+  pub swept-plan : (starts gaps old new : List ℕ) (p v : ℕ) → 6 * jobs tb ≤ length old → Prepared tb starts gaps old → Swept (jobs tb) starts old p v new → PlanIn tb new
+  swept-plan starts gaps old new p v room ready s =
       record {
         room = rw (s .kept) room;
         order-is = s .order-kept ∙ ready .order-is;
         passes-are = rw (ready .schedule-is, schedule-length tb a) at (s .passes-are);
       }
 
-  pub swept-pairs : (old new : List ℕ) (p v : ℕ) → Prepared tb old → Swept (jobs tb) old p v new → p ≡ pairs tb
-  swept-pairs old new p v ready s = s .pairs-are ∙ rw (ready .schedule-is) (schedule-pairs tb a)
+  pub swept-pairs : (starts gaps old new : List ℕ) (p v : ℕ) → Prepared tb starts gaps old → Swept (jobs tb) starts old p v new → p ≡ pairs tb
+  swept-pairs starts gaps old new p v ready s = s .pairs-are ∙ rw (ready .schedule-is) (schedule-pairs tb a)
 
-  pub swept-visits : (old new : List ℕ) (p v : ℕ) → Prepared tb old → Swept (jobs tb) old p v new → v ≡ cellCount tb
-  swept-visits old new p v ready s = s .visits-are ∙ rw (ready .schedule-is) (schedule-visits tb a)
+  pub swept-visits : (starts gaps old new : List ℕ) (p v : ℕ) → Prepared tb starts gaps old → Swept (jobs tb) starts old p v new → v ≡ cellCount tb
+  swept-visits starts gaps old new p v ready s = s .visits-are ∙ rw (ready .schedule-is) (schedule-visits tb a)
 
   -- pass k by place, and by job
   module _ (work : List ℕ) (r : PlanIn tb work) (k : ℕ) (h : k < length (passes tb)) where
@@ -146,7 +144,7 @@ module _ (tb : Table) (a : Accepted tb) where
     opener-known = ⊎-elim (λ e. single-known (eqb-true mate FFFF e)) (λ e. pair-known (eqb-false mate FFFF e) .0) (answers (eqb mate FFFF))
 
     job-is : (p : ℕ) → p < jobs tb → jobIn work p ≡ jobAt tb p
-    job-is p l = sym (getD-take (jobs tb) work p 0 l) ∙ ap (λ (cells : List ℕ). getD cells p 0) (r .order-is)
+    job-is p l = job-in tb (a .few) work (r .order-is) p l
 
     -- what reading the pass asks for
     pub pass-cells : PassCells (tb .parents) (tb .bottoms) work k
@@ -177,7 +175,7 @@ module _ (tb : Table) (a : Accepted tb) where
         let is : planPass tb k ≡ pair (jobAt tb opener) (jobAt tb mate) = by-job ∙ ap (renamed (jobAt tb)) (paired e) in
         let fit = all-mem (λ (p : Pair). compatible tb (p .one) (p .other) ≡ true) (passes-compatible tb) ((rw is at (pass-among (passes tb) k (single 0) h)) .2) in
         rw is
-        (o .0 ∙ first, o .1 ∙ second, common-shared tb a (jobAt tb opener) (jobAt tb mate) (job-known tb opener (known .0)) (job-known tb mate (known .1)) (compatible-true tb (jobAt tb opener) (jobAt tb mate) fit .2) (layout .0) (rw (first, second) at (o .2)))
+        (o .0 ∙ first, o .1 ∙ second, common-shared tb a (jobAt tb opener) (jobAt tb mate) (job-known tb opener (known .0)) (job-known tb mate (known .1)) (compatible-true tb (jobAt tb opener) (jobAt tb mate) fit .3) (layout .0) (rw (first, second) at (o .2)))
 
     -- what is read is the pass of the plan
     pub pass-read : (x : declared.Pass) → PassRead (tb .parents) (tb .bottoms) work k x → PassIs tb (planPass tb k) x

@@ -7,7 +7,7 @@ use lib.ListN.{length, getD}
 use Rattle.model.specs.Tree.{FFFF}
 use Rattle.model.specs.Greedy.{Pass}
 use Rattle.ancestry.specs.Ancestry.{LowestCommonAncestor}
-use Rattle.schedule.specs.InWork.{matePart, openerPart}
+use Rattle.schedule.specs.InWork.{jobIn, matePart, openerPart}
 use Rattle.passes.specs.declared.Pass as declared
 use Rattle.passes.specs.declared.Pass.the-variants as pass
 
@@ -17,9 +17,6 @@ openerIn n work k = getD work (openerPart * n + k) 0
 
 abbrev pub mateIn : ℕ → List ℕ → ℕ → ℕ
 mateIn n work p = getD work (matePart * n + p) 0
-
-abbrev pub jobIn : List ℕ → ℕ → ℕ
-jobIn work p = getD work p 0
 
 -- two jobs whose bottoms are layouts
 pub record PairCells (ps bottoms : List ℕ) (i j : ℕ) : Type 0 where

@@ -30,16 +30,17 @@ pub fn make_passes(
     tops: &mut [u16],
     bottoms: &[u16],
     marks: &mut [u8],
+    windows: &[u8],
     work: &mut [u16],
 ) -> Totals
-    requires { ⌜ Accepted (tableOf (now parents) (now tops) (now bottoms) (now marks)) ⌝ }
+    requires { ⌜ Accepted (tableOf (now parents) (now tops) (now bottoms) (now marks) (now windows)) ⌝ }
     requires { ⌜ Spanned (now parents) (now tree) ⌝ }
     requires { ⌜ Roomy (length (now tops)) (now work) ⌝ }
-    ensures { λ r. ⌜ Made (tableOf (now (parents .entry)) (now (tops .entry)) (now (bottoms .entry)) (now (marks .entry))) (now (parents .entry)) (now (tree .entry)) (now (bottoms .entry)) (now (work .entry)) r (now (tops .exit)) (now (work .exit)) ⌝ }
+    ensures { λ r. ⌜ Made (tableOf (now (parents .entry)) (now (tops .entry)) (now (bottoms .entry)) (now (marks .entry)) (now (windows .entry))) (now (parents .entry)) (now (tree .entry)) (now (bottoms .entry)) (now (work .entry)) r (now (tops .exit)) (now (work .exit)) ⌝ }
 {
     let count = tops.len();
-    prepare::prepare(parents, tree, tops, bottoms, marks, work);
-    let matched = sweep::sweep(work, count);
+    let starts = prepare::prepare(parents, tree, tops, bottoms, marks, windows, work);
+    let matched = sweep::sweep(work, count, &starts, marks);
     let pairs = matched.pairs as usize;
     Totals {
         pairs: matched.pairs,

@@ -13,7 +13,6 @@ use Rattle.model.specs.Outcomes.{PlannedAs}
 use Rattle.model.specs.declared.Planned.{Planned}
 use Rattle.model.specs.declared.JobNumber.{JobNumber}
 use Rattle.model.specs.declared.Totals.{Totals}
-use Rattle.model.specs.Planning as Planning
 use Rattle.model.specs.declared.Planned.the-variants as planned
 use Rattle.tree_laws.specs.WellFormed.{Tree}
 use Rattle.jobs.specs.Accepted.{Accepted, Lent, table-accepted}
@@ -62,15 +61,15 @@ pub refused-job : (tb : Table) (partners uppers printed work : List ℕ) (c : Jo
 refused-job tb partners uppers printed work c number job e is r a = refused-as tb partners uppers printed work r (jobsVerdict tb) number (job .0) (e ∙ ap checkVerdict is) a
 
 -- the job check accepts
-module _ (ps ts bs ms partners uppers printed work : List ℕ) (lent : Lent (tableOf ps ts bs ms) (length partners) (length uppers) (length printed) (length work)) (few : length ts ≤ jobLimit) (t : Tree ps) (c : JobCheck) (e : jobsVerdict (tableOf ps ts bs ms) ≡ checkVerdict c) (is : c ≡ check.Right) where
+module _ (ps ts bs ms ws partners uppers printed work : List ℕ) (lent : Lent (tableOf ps ts bs ms ws) (length partners) (length uppers) (length printed) (length work)) (few : length ts ≤ jobLimit) (t : Tree ps) (c : JobCheck) (e : jobsVerdict (tableOf ps ts bs ms ws) ≡ checkVerdict c) (is : c ≡ check.Right) where
   abbrev tb : Table
-  tb = tableOf ps ts bs ms
+  tb = tableOf ps ts bs ms ws
 
-  accepts : jobsVerdict (tableOf ps ts bs ms) ≡ accepted
+  accepts : jobsVerdict (tableOf ps ts bs ms ws) ≡ accepted
   accepts = e ∙ ap checkVerdict is
 
-  right : Accepted (tableOf ps ts bs ms)
-  right = table-accepted tb t few (sym (lent .bottoms-length)) (sym (lent .marks-length)) accepts
+  right : Accepted (tableOf ps ts bs ms ws)
+  right = table-accepted tb t few (sym (lent .bottoms-length)) (sym (lent .marks-length)) (sym (lent .windows-length)) accepts
 
   -- its tops and marks are copied, and the copies lent
   module _ (quiet us qs : List ℕ) (tops-copied : us ≡ ts ++ drop (length ts) uppers) (marks-copied : qs ≡ ms ++ drop (length ts) quiet) where
@@ -80,7 +79,7 @@ module _ (ps ts bs ms partners uppers printed work : List ℕ) (lent : Lent (tab
     marks-part : take (length ts) qs ≡ ms
     marks-part = rw marks-copied (take-at ms (drop (length ts) quiet) (length ts) (sym (lent .marks-length)))
 
-    pub copies-accepted : Accepted (tableOf ps (take (length ts) us) bs (take (length ts) qs))
+    pub copies-accepted : Accepted (tableOf ps (take (length ts) us) bs (take (length ts) qs) ws)
     copies-accepted = rw (tops-part, marks-part) right
 
     pub room : Room (length (take (length ts) us)) (take (length ts) partners) (take (length ts) printed) (take workCells work)
@@ -92,10 +91,10 @@ module _ (ps ts bs ms partners uppers printed work : List ℕ) (lent : Lent (tab
           work-length = length-take-le workCells work (lent .work-room);
         })
 
-    pub planned-as : (t : Totals) (partners′ uppers′ printed′ work′ : List ℕ) → Filled (tableOf ps (take (length ts) us) bs (take (length ts) qs)) t partners′ uppers′ printed′ work′
-        → PlannedAs (jobsVerdict (tableOf ps ts bs ms)) (tableOf ps ts bs ms) partners uppers printed work (planned.Done t) (partners′ ++ drop (length ts) partners) (uppers′ ++ drop (length ts) us) (printed′ ++ drop (length ts) printed) (work′ ++ drop workCells work)
+    pub planned-as : (t : Totals) (partners′ uppers′ printed′ work′ : List ℕ) → Filled (tableOf ps (take (length ts) us) bs (take (length ts) qs) ws) t partners′ uppers′ printed′ work′
+        → PlannedAs (jobsVerdict (tableOf ps ts bs ms ws)) (tableOf ps ts bs ms ws) partners uppers printed work (planned.Done t) (partners′ ++ drop (length ts) partners) (uppers′ ++ drop (length ts) us) (printed′ ++ drop (length ts) printed) (work′ ++ drop workCells work)
     planned-as totals partners′ uppers′ printed′ work′ filled =
-        let f : Filled (tableOf ps ts bs ms) totals partners′ uppers′ printed′ work′ = rw (tops-part, marks-part) at filled in
+        let f : Filled (tableOf ps ts bs ms ws) totals partners′ uppers′ printed′ work′ = rw (tops-part, marks-part) at filled in
         let rest : drop (length ts) us ≡ drop (length ts) uppers = rw tops-copied (drop-append-seam ts (drop (length ts) uppers)) in
         let returned = f .returned in
         record {

@@ -42,17 +42,18 @@ fn plan_accepted(
     tree: &[u16; TREE],
     bottoms: &[u16],
     marks: &mut [u8],
+    windows: &[u8],
     partners: &mut [u16],
     uppers: &mut [u16],
     printed: &mut [u16],
     work: &mut [u16],
 ) -> Totals
-    requires { ⌜ Accepted (tableOf (now parents) (now uppers) (now bottoms) (now marks)) ⌝ }
+    requires { ⌜ Accepted (tableOf (now parents) (now uppers) (now bottoms) (now marks) (now windows)) ⌝ }
     requires { ⌜ Spanned (now parents) (now tree) ⌝ }
     requires { ⌜ Room (length (now uppers)) (now partners) (now printed) (now work) ⌝ }
-    ensures { λ r. ⌜ Filled (tableOf (now (parents .entry)) (now (uppers .entry)) (now (bottoms .entry)) (now (marks .entry))) r (now (partners .exit)) (now (uppers .exit)) (now (printed .exit)) (now (work .exit)) ⌝ }
+    ensures { λ r. ⌜ Filled (tableOf (now (parents .entry)) (now (uppers .entry)) (now (bottoms .entry)) (now (marks .entry)) (now (windows .entry))) r (now (partners .exit)) (now (uppers .exit)) (now (printed .exit)) (now (work .exit)) ⌝ }
 {
-    let totals = passes::make_passes(parents, tree, uppers, bottoms, marks, work);
+    let totals = passes::make_passes(parents, tree, uppers, bottoms, marks, windows, work);
     let count = totals.pairs as usize + totals.singles as usize;
     hand_back::hand_back(
         parents,
@@ -81,20 +82,21 @@ fn plan_jobs(
     tops: &[u16],
     bottoms: &[u16],
     marks: &[u8],
+    windows: &[u8],
     partners: &mut [u16],
     uppers: &mut [u16],
     printed: &mut [u16],
     work: &mut [u16],
 ) -> Planned
-    requires { ⌜ Lent (tableOf (now parents) (now tops) (now bottoms) (now marks)) (length (now partners)) (length (now uppers)) (length (now printed)) (length (now work)) ⌝ }
+    requires { ⌜ Lent (tableOf (now parents) (now tops) (now bottoms) (now marks) (now windows)) (length (now partners)) (length (now uppers)) (length (now printed)) (length (now work)) ⌝ }
     requires { ⌜ length (now tops) ≤ jobLimit ⌝ }
     requires { ⌜ Tree (now parents) ⌝ }
-    ensures { λ r. ⌜ PlannedAs (jobsVerdict (tableOf (now (parents .entry)) (now (tops .entry)) (now (bottoms .entry)) (now (marks .entry)))) (tableOf (now (parents .entry)) (now (tops .entry)) (now (bottoms .entry)) (now (marks .entry))) (now (partners .entry)) (now (uppers .entry)) (now (printed .entry)) (now (work .entry)) r (now (partners .exit)) (now (uppers .exit)) (now (printed .exit)) (now (work .exit)) ⌝ }
+    ensures { λ r. ⌜ PlannedAs (jobsVerdict (tableOf (now (parents .entry)) (now (tops .entry)) (now (bottoms .entry)) (now (marks .entry)) (now (windows .entry)))) (tableOf (now (parents .entry)) (now (tops .entry)) (now (bottoms .entry)) (now (marks .entry)) (now (windows .entry))) (now (partners .entry)) (now (uppers .entry)) (now (printed .entry)) (now (work .entry)) r (now (partners .exit)) (now (uppers .exit)) (now (printed .exit)) (now (work .exit)) ⌝ }
 {
     let mut tree = [0u16; TREE];
     settle::settle_tree(parents, &mut tree);
     let count = tops.len();
-    let check = jobs::check_jobs(&tree, parents.len(), tops, bottoms);
+    let check = jobs::check_jobs(&tree, parents.len(), tops, bottoms, windows);
     match check {
         JobCheck::Wrong(number, job) => refuse(number, job.0),
         JobCheck::Right => {
@@ -105,6 +107,7 @@ fn plan_jobs(
                 &tree,
                 bottoms,
                 &mut quiet[..count],
+                windows,
                 &mut partners[..count],
                 &mut uppers[..count],
                 &mut printed[..count],
@@ -121,18 +124,22 @@ pub fn plan(
     tops: &[u16],
     bottoms: &[u16],
     marks: &[u8],
+    windows: &[u8],
     partners: &mut [u16],
     uppers: &mut [u16],
     printed: &mut [u16],
     work: &mut [u16],
 ) -> Planned
-    ensures { λ r. ⌜ PlanOutcome (now (parents .entry)) (now (tops .entry)) (now (bottoms .entry)) (now (marks .entry)) (now (partners .entry)) (now (uppers .entry)) (now (printed .entry)) (now (work .entry)) r (now (partners .exit)) (now (uppers .exit)) (now (printed .exit)) (now (work .exit)) ⌝ }
+    ensures { λ r. ⌜ PlanOutcome (now (parents .entry)) (now (tops .entry)) (now (bottoms .entry)) (now (marks .entry)) (now (windows .entry)) (now (partners .entry)) (now (uppers .entry)) (now (printed .entry)) (now (work .entry)) r (now (partners .exit)) (now (uppers .exit)) (now (printed .exit)) (now (work .exit)) ⌝ }
 {
     let count = tops.len();
     if bottoms.len() != count {
         return refuse(8, 0);
     }
     if marks.len() != count {
+        return refuse(8, 0);
+    }
+    if windows.len() != count {
         return refuse(8, 0);
     }
     if partners.len() < count {
@@ -158,6 +165,7 @@ pub fn plan(
             tops,
             bottoms,
             marks,
+            windows,
             partners,
             uppers,
             printed,

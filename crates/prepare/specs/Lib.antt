@@ -1,4 +1,5 @@
 -- What the steps of the counting sorts promise, and the laws from there to the schedule of the table.
 pub mod Steps
+pub mod RowKeys
 pub mod StepLaws
 pub mod PreparedLaws

@@ -1,19 +1,22 @@
 // Reads the lines into the buffers, in one pass. The jobs are not checked here: 5 and 6 need the whole tree, which is known at the end.
 use frame::LAYOUT_LINE;
 use frame::LONG_LINE;
+use frame::WINDOW_LINE;
 use model::Counts;
 use model::Frame;
 use model::FrameRead;
 use model::JobNumber;
 use model::LayoutNumber;
 use model::Refusal;
+use model::WindowNumber;
 ghost use mathlib.Core.Path.{_≡_};
 ghost use mathlib.Core.Bool.{false};
 ghost use mathlib.Core.List.{List};
 ghost use Prim.Native.Nat.{ℕ, _+_, _<_, _≤_};
 ghost use lib.ListN.{length};
-ghost use Rattle.model.specs.Jobs.{Table};
-ghost use Rattle.model.specs.Table.{layoutFrame, endFrame};
+ghost use lib.Dec.{leb};
+ghost use Rattle.model.specs.Jobs.{Table, jobLimit};
+ghost use Rattle.model.specs.Table.{layoutFrame, windowFrame, endFrame, beyondWindows};
 ghost use Rattle.model.specs.Answers.{frameCase};
 ghost use Rattle.frame.specs.Fields.{DigitValues};
 ghost use Rattle.reading.specs.Steps.{Counted, endedAt, FrameOutcome, StepOutcome, jobOf, BuffersReady, LinesRead, Stopped};
@@ -26,11 +29,12 @@ struct Progress {
     ends: usize,
 }
 
-// What the next line is: a layout with its parent, a job with its mark, or the end. A mark is a whole word here: a step that fits one word would be passed
-// packed into it, and taken apart again.
+// What the next line is: a layout with its parent, a job with its mark, a job with its window, or the end. A mark is a whole word here: a step that fits one
+// word would be passed packed into it, and taken apart again.
 enum Step {
     Layout(LayoutNumber),
     Job(LayoutNumber, LayoutNumber, usize),
+    Windowed(LayoutNumber, LayoutNumber, WindowNumber),
     End,
     Refused(Refusal),
 }
@@ -80,16 +84,40 @@ fn judge_layout(parent: LayoutNumber, p: Progress) -> Step
     refuse(4, p)
 }
 
+// Whether no job more can be held.
+fn holds_all_jobs(p: Progress) -> bool
+    ensures { λ r. ⌜ r ≡ leb jobLimit (p .jobs) ⌝ }
+{
+    JobNumber::LIMIT <= p.jobs
+}
+
 // A job before the end, or with mark 1 a solo job: 3 beyond the limit.
 fn judge_job(top: LayoutNumber, bottom: LayoutNumber, mark: usize, p: Progress) -> Step
     requires { ⌜ Counted (p .layouts) (p .jobs) (p .ends) ⌝ }
     requires { ⌜ mark ≤ 1 ⌝ }
     ensures { λ r. ⌜ ((tb : Table) (own : List ℕ) → length (tb .parents) ≡ p .layouts → length (tb .tops) ≡ p .jobs → FrameOutcome (p .layouts + p .jobs + p .ends + 1) tb own false (jobOf (top .0) (bottom .0) mark) r) ⌝ }
 {
-    if JobNumber::LIMIT <= p.jobs {
+    if holds_all_jobs(p) {
         return refuse(3, p);
     }
     Step::Job(top, bottom, mark)
+}
+
+// A job with a window before the end: 3 beyond the limit.
+fn judge_windowed(
+    top: LayoutNumber,
+    bottom: LayoutNumber,
+    window: WindowNumber,
+    p: Progress,
+) -> Step
+    requires { ⌜ Counted (p .layouts) (p .jobs) (p .ends) ⌝ }
+    requires { ⌜ beyondWindows (windowFrame (top .0) (bottom .0) (window .0)) ≡ false ⌝ }
+    ensures { λ r. ⌜ ((tb : Table) (own : List ℕ) → length (tb .parents) ≡ p .layouts → length (tb .tops) ≡ p .jobs → FrameOutcome (p .layouts + p .jobs + p .ends + 1) tb own false (windowFrame (top .0) (bottom .0) (window .0)) r) ⌝ }
+{
+    if holds_all_jobs(p) {
+        return refuse(3, p);
+    }
+    Step::Windowed(top, bottom, window)
 }
 
 // The first end: 2 without a layout, 7 with wrong counts.
@@ -109,9 +137,10 @@ fn judge_end(n: usize, m: usize, p: Progress) -> Step
     Step::End
 }
 
-// A line by its frame: 2 after the end.
+// A line by its frame, which has no window above 0F: 2 after the end.
 fn judge(line_frame: Frame, p: Progress) -> Step
     requires { ⌜ Counted (p .layouts) (p .jobs) (p .ends) ⌝ }
+    requires { ⌜ beyondWindows (frameCase «line_frame») ≡ false ⌝ }
     ensures { λ r. ⌜ ((tb : Table) (own : List ℕ) → length (tb .parents) ≡ p .layouts → length (tb .tops) ≡ p .jobs → FrameOutcome (p .layouts + p .jobs + p .ends + 1) tb own (endedAt (p .ends)) (frameCase «line_frame») r) ⌝ }
 {
     if p.ends != 0 {
@@ -120,6 +149,7 @@ fn judge(line_frame: Frame, p: Progress) -> Step
     match line_frame {
         Frame::Job(t, b) => judge_job(t, b, 0, p),
         Frame::Solo(t, b) => judge_job(t, b, 1, p),
+        Frame::Windowed(t, b, v) => judge_windowed(t, b, v, p),
         Frame::Layout(parent) => judge_layout(parent, p),
         Frame::End(n, m) => judge_end(n, m, p),
     }
@@ -176,16 +206,17 @@ fn at_last(p: Progress) -> Lines
     ended(p, After::Nothing)
 }
 
-// Reads the lines into clear buffers.
+// Reads the lines into clear buffers, whose marks and windows are 0: a line without a window leaves its window so, and one with a window its mark.
 pub fn read_unchecked(
     bytes: &[u8],
     parents: &mut [u16],
     tops: &mut [u16],
     bottoms: &mut [u16],
     marks: &mut [u8],
+    windows: &mut [u8],
 ) -> Lines
-    requires { ⌜ BuffersReady (now bytes) (now parents) (now tops) (now bottoms) (now marks) ⌝ }
-    ensures { λ r. ⌜ LinesRead (now (bytes .entry)) (now (parents .exit)) (now (tops .exit)) (now (bottoms .exit)) (now (marks .exit)) r ⌝ }
+    requires { ⌜ BuffersReady (now bytes) (now parents) (now tops) (now bottoms) (now marks) (now windows) ⌝ }
+    ensures { λ r. ⌜ LinesRead (now (bytes .entry)) (now (parents .exit)) (now (tops .exit)) (now (bottoms .exit)) (now (marks .exit)) (now (windows .exit)) r ⌝ }
 {
     let digits = frame::digit_values();
     let mut at = 0;
@@ -212,6 +243,13 @@ pub fn read_unchecked(
                 marks[jobs] = mark as u8;
                 jobs += 1;
                 at += LONG_LINE;
+            }
+            Step::Windowed(top, bottom, window) => {
+                tops[jobs] = top.0;
+                bottoms[jobs] = bottom.0;
+                windows[jobs] = window.0;
+                jobs += 1;
+                at += WINDOW_LINE;
             }
             Step::End => {
                 ends = 1;

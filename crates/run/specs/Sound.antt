@@ -12,9 +12,9 @@ use lib.Dec.{eqb, leb}
 use borrow.Author.Tests.{leb-false, eqb-false, not-false}
 use Rattle.model.specs.Verdict.{accepted, refuseIf, _then_}
 use Rattle.model.specs.Tree.{layoutLimit, rightParent, layoutsFrom, treeVerdict}
-use Rattle.model.specs.Jobs.{Table, jobs, jobLimit}
+use Rattle.model.specs.Jobs.{Table, jobs, jobLimit, windowLimit}
 use Rattle.model.specs.Planning.{workCells, jobsVerdict, planVerdict}
-use Rattle.model.specs.Table.{Line, Frame, layoutFrame, jobFrame, soloFrame, endFrame, frameOf, lines, onItsLine, isEnd, endWithoutLayout, contentVerdict, frameVerdict, withJob, extended, withOwnLine, Reading, read, readFrame, readLines, emptyTable, readTable}
+use Rattle.model.specs.Table.{Line, Frame, layoutFrame, jobFrame, soloFrame, windowFrame, endFrame, frameOf, lines, onItsLine, isEnd, beyondWindows, endWithoutLayout, contentVerdict, frameVerdict, withJob, extended, withOwnLine, Reading, read, readFrame, readLines, emptyTable, readTable}
 use Rattle.tree_laws.specs.WellFormed.{well-formed, layouts-more}
 use Rattle.laws.specs.Booleans.{or-false-both}
 use Rattle.laws.specs.Verdicts.{placed-accepted, then-accepted, not-refused, accepted-reading}
@@ -29,6 +29,7 @@ pub record Sound (tb : Table) : Type 0 where
   pub few : jobs tb ≤ jobLimit
   pub bottoms-length : jobs tb ≡ length (tb .bottoms)
   pub marks-length : jobs tb ≡ length (tb .marks)
+  pub windows-length : jobs tb ≡ length (tb .windows)
 
 -- and what the end tells of it
 pub record Ended (tb : Table) : Type 0 where
@@ -38,7 +39,7 @@ pub record Ended (tb : Table) : Type 0 where
 -- ---- one line more
 
 module _ (tb : Table) (s : Sound tb) where
-  layout-sound : (p line : ℕ) → (refuseIf (leb layoutLimit (length (tb .parents))) 3 line then refuseIf (not (rightParent (length (tb .parents)) p)) 4 line) ≡ accepted → Sound (record { parents = tb .parents ++ p ∷ []; tops = tb .tops; bottoms = tb .bottoms; marks = tb .marks })
+  layout-sound : (p line : ℕ) → (refuseIf (leb layoutLimit (length (tb .parents))) 3 line then refuseIf (not (rightParent (length (tb .parents)) p)) 4 line) ≡ accepted → Sound (record { parents = tb .parents ++ p ∷ []; tops = tb .tops; bottoms = tb .bottoms; marks = tb .marks; windows = tb .windows })
   layout-sound p line e =
       let both = then-accepted (refuseIf (leb layoutLimit (length (tb .parents))) 3 line) (refuseIf (not (rightParent (length (tb .parents)) p)) 4 line) e in
       record {
@@ -47,16 +48,18 @@ module _ (tb : Table) (s : Sound tb) where
         few = s .few;
         bottoms-length = s .bottoms-length;
         marks-length = s .marks-length;
+        windows-length = s .windows-length;
       }
 
-  job-sound : (t b mark line : ℕ) → refuseIf (leb jobLimit (jobs tb)) 3 line ≡ accepted → Sound (withJob tb t b mark)
-  job-sound t b mark line e =
+  job-sound : (t b mark v line : ℕ) → refuseIf (leb jobLimit (jobs tb)) 3 line ≡ accepted → Sound (withJob tb t b mark v)
+  job-sound t b mark v line e =
       record {
         small = s .small;
         right = s .right;
         few = omega (arith, length-append (tb .tops) (t ∷ []), leb-false jobLimit (jobs tb) (not-refused (leb jobLimit (jobs tb)) 3 line e));
         bottoms-length = omega (arith, s .bottoms-length, length-append (tb .tops) (t ∷ []), length-append (tb .bottoms) (b ∷ []));
         marks-length = omega (arith, s .marks-length, length-append (tb .tops) (t ∷ []), length-append (tb .marks) (mark ∷ []));
+        windows-length = omega (arith, s .windows-length, length-append (tb .tops) (t ∷ []), length-append (tb .windows) (v ∷ []));
       }
 
 no-end : {A : Type 0} → false ≡ true → A
@@ -64,16 +67,20 @@ no-end q = let apart : _≡_ {A = ℕ} 0 1 = cc in absurd (omega arith)
 
 -- a frame that is accepted keeps the table sound, and an end has judged it
 frame-sound : (line : ℕ) (tb : Table) (own : List ℕ) (ended : Bool) (f : Frame) → Sound tb → frameVerdict line tb own ended f ≡ accepted → Sound (extended tb f) × (isEnd f ≡ true → Ended (extended tb f))
-unfolding frameVerdict endWithoutLayout contentVerdict extended isEnd
+unfolding frameVerdict beyondWindows endWithoutLayout contentVerdict extended isEnd
 frame-sound line tb own ended (layoutFrame p) s e =
     let both = then-accepted (refuseIf (ended || false) 2 line) (refuseIf (leb layoutLimit (length (tb .parents))) 3 line then refuseIf (not (rightParent (length (tb .parents)) p)) 4 line) e in
     (layout-sound tb s p line (both .1), no-end)
 frame-sound line tb own ended (jobFrame t b) s e =
     let both = then-accepted (refuseIf (ended || false) 2 line) (refuseIf (leb jobLimit (jobs tb)) 3 line) e in
-    (job-sound tb s t b 0 line (both .1), no-end)
+    (job-sound tb s t b 0 0 line (both .1), no-end)
 frame-sound line tb own ended (soloFrame t b) s e =
     let both = then-accepted (refuseIf (ended || false) 2 line) (refuseIf (leb jobLimit (jobs tb)) 3 line) e in
-    (job-sound tb s t b 1 line (both .1), no-end)
+    (job-sound tb s t b 1 0 line (both .1), no-end)
+frame-sound line tb own ended (windowFrame t b v) s e =
+    let known = then-accepted (refuseIf (leb windowLimit v) 9 line) (refuseIf (ended || false) 2 line then refuseIf (leb jobLimit (jobs tb)) 3 line) e in
+    let both = then-accepted (refuseIf (ended || false) 2 line) (refuseIf (leb jobLimit (jobs tb)) 3 line) (known .1) in
+    (job-sound tb s t b 0 v line (both .1), no-end)
 frame-sound line tb own ended (endFrame n m) s e =
     let empty = eqb (length (tb .parents)) 0 in
     let counts = refuseIf (not (eqb n (length (tb .parents)) && eqb m (jobs tb))) 7 line in
@@ -101,7 +108,7 @@ module _ (tb′ : Table) where
 
 empty-sound : Sound emptyTable
 unfolding layoutsFrom
-empty-sound = record { small = omega arith; right = refl; few = omega arith; bottoms-length = refl; marks-length = refl }
+empty-sound = record { small = omega arith; right = refl; few = omega arith; bottoms-length = refl; marks-length = refl; windows-length = refl }
 
 -- ---- so *Plan* accepts it
 
@@ -122,10 +129,10 @@ module _ (bytes : List ℕ) (tb : Table) (is : readTable bytes ≡ read tb) wher
   pub read-table : Accepted tb
   read-table =
       let s = read-sound .0 in
-      table-accepted tb (well-formed (tb .parents) tree-right (s .small)) (s .few) (sym (s .bottoms-length)) (sym (s .marks-length)) (read-sound .1 .judged)
+      table-accepted tb (well-formed (tb .parents) tree-right (s .small)) (s .few) (sym (s .bottoms-length)) (sym (s .marks-length)) (sym (s .windows-length)) (read-sound .1 .judged)
 
   -- and *Plan* accepts it, with enough lent
   pub read-accepted : (partners uppers printed work : ℕ) → jobs tb ≤ partners → jobs tb ≤ uppers → jobs tb ≤ printed → workCells ≤ work → planVerdict tb partners uppers printed work ≡ accepted
   read-accepted partners uppers printed work p u l w =
       let s = read-sound .0 in
-      right-layouts tb partners uppers printed work (record { bottoms-length = s .bottoms-length; marks-length = s .marks-length; partners-room = p; uppers-room = u; printed-room = l; work-room = w }) (s .few) (within-limit (tb .parents) (s .small) ∙ tree-right) ∙ read-sound .1 .judged
+      right-layouts tb partners uppers printed work (record { bottoms-length = s .bottoms-length; marks-length = s .marks-length; windows-length = s .windows-length; partners-room = p; uppers-room = u; printed-room = l; work-room = w }) (s .few) (within-limit (tb .parents) (s .small) ∙ tree-right) ∙ read-sound .1 .judged

@@ -27,13 +27,15 @@ abbrev pub someJobs : ℕ
 someJobs = 1024
 
 -- clear arrays with room for every job that the input can hold within the limit, and work cells for as many jobs as have room
-pub record ArraysFor (input tops bottoms marks work : List ℕ) : Type 0 where
+pub record ArraysFor (input tops bottoms marks windows work : List ℕ) : Type 0 where
   pub tops-room : Room input tops
   pub bottoms-room : Room input bottoms
   pub marks-room : Room input marks
+  pub windows-room : Room input windows
   pub tops-clear : Unused FFFF 0 tops
   pub bottoms-clear : Unused FFFF 0 bottoms
   pub marks-clear : Unused 0 0 marks
+  pub windows-clear : Unused 0 0 windows
   pub work-room : (m : ℕ) → m ≤ length tops → m ≤ jobLimit → Roomy m work
 
 -- ---- arrays
@@ -42,24 +44,26 @@ clear-array : (n v : ℕ) → Unused v 0 (replicate n v)
 clear-array n v = rw (sub-zero (length (replicate n v)), length-replicate n v) refl
 
 -- arrays for 2 ^ l jobs, where no more fit into the input or none more are allowed
-pub arrays : (input : List ℕ) (l : ℕ) → ((m : ℕ) → m < jobLimit → 11 * m + 11 ≤ length input → m < 2 ^ l) → ArraysFor input (replicate (2 ^ l) FFFF) (replicate (2 ^ l) FFFF) (replicate (2 ^ l) 0) (replicate (8 * 2 ^ l) 0)
+pub arrays : (input : List ℕ) (l : ℕ) → ((m : ℕ) → m < jobLimit → 11 * m + 11 ≤ length input → m < 2 ^ l) → ArraysFor input (replicate (2 ^ l) FFFF) (replicate (2 ^ l) FFFF) (replicate (2 ^ l) 0) (replicate (2 ^ l) 0) (replicate (8 * 2 ^ l) 0)
 arrays input l fits =
     record {
       tops-room = λ m h k. rw (length-replicate (2 ^ l) FFFF) (fits m h k);
       bottoms-room = λ m h k. rw (length-replicate (2 ^ l) FFFF) (fits m h k);
       marks-room = λ m h k. rw (length-replicate {A = ℕ} (2 ^ l) 0) (fits m h k);
+      windows-room = λ m h k. rw (length-replicate {A = ℕ} (2 ^ l) 0) (fits m h k);
       tops-clear = clear-array (2 ^ l) FFFF;
       bottoms-clear = clear-array (2 ^ l) FFFF;
       marks-clear = clear-array (2 ^ l) 0;
+      windows-clear = clear-array (2 ^ l) 0;
       work-room = λ m h k. rw (length-replicate {A = ℕ} (8 * 2 ^ l) 0) (sweep-room m l (rw (length-replicate (2 ^ l) FFFF) at h));
     }
 
 -- and clear parents beside them
-pub run-ready : (input parents tops bottoms marks work : List ℕ) → parents ≡ replicate layoutLimit FFFF → ArraysFor input tops bottoms marks work → BuffersReady input parents tops bottoms marks
-run-ready input parents tops bottoms marks work e a =
+pub run-ready : (input parents tops bottoms marks windows work : List ℕ) → parents ≡ replicate layoutLimit FFFF → ArraysFor input tops bottoms marks windows work → BuffersReady input parents tops bottoms marks windows
+run-ready input parents tops bottoms marks windows work e a =
     record {
-      room = record { parents-room = rw (e, length-replicate layoutLimit FFFF) (omega arith); tops-room = a .tops-room; bottoms-room = a .bottoms-room; marks-room = a .marks-room };
-      clear = record { parents-spare = rw e (clear-array layoutLimit FFFF); tops-spare = a .tops-clear; bottoms-spare = a .bottoms-clear; marks-spare = a .marks-clear };
+      room = record { parents-room = rw (e, length-replicate layoutLimit FFFF) (omega arith); tops-room = a .tops-room; bottoms-room = a .bottoms-room; marks-room = a .marks-room; windows-room = a .windows-room };
+      clear = record { parents-spare = rw e (clear-array layoutLimit FFFF); tops-spare = a .tops-clear; bottoms-spare = a .bottoms-clear; marks-spare = a .marks-clear; windows-spare = a .windows-clear };
     }
 
 -- ---- what is printed
@@ -78,10 +82,10 @@ unfolding runLength runOutput outputVerdict
 run-refused input output h = record { answered = rw (lt-ltb (length output) outputBytes h) refl; written = rw (lt-ltb (length output) outputBytes h) refl }
 
 -- the work cells have room for the jobs that were read
-pub work-roomy : (t : Reading) (input tops bottoms marks work parents′ tops′ bottoms′ marks′ tree : List ℕ) (n m : ℕ) → ArraysFor input tops bottoms marks work → length tops′ ≡ length tops → TableHeld t parents′ tops′ bottoms′ marks′ tree n m → Roomy (length (take m tops′)) work
-work-roomy t input tops bottoms marks work parents′ tops′ bottoms′ marks′ tree n m a same h =
+pub work-roomy : (t : Reading) (input tops bottoms marks windows work parents′ tops′ bottoms′ marks′ windows′ tree : List ℕ) (n m : ℕ) → ArraysFor input tops bottoms marks windows work → length tops′ ≡ length tops → TableHeld t parents′ tops′ bottoms′ marks′ windows′ tree n m → Roomy (length (take m tops′)) work
+work-roomy t input tops bottoms marks windows work parents′ tops′ bottoms′ marks′ windows′ tree n m a same h =
     rw (length-take-le m tops′ (h .holds .tops-hold)) (a .work-room m (omega (arith, h .holds .tops-hold)) (h .holds .few-jobs))
 
-pub plan-printed-as : (t : Reading) (input output : List ℕ) (r : ℕ) (output′ parents tops bottoms marks tree : List ℕ) (n m : ℕ) → t ≡ readTable input → TableHeld t parents tops bottoms marks tree n m → Printed (planBytes (held parents tops bottoms marks n m)) output r output′ → Printed (runBytes input) output r output′
+pub plan-printed-as : (t : Reading) (input output : List ℕ) (r : ℕ) (output′ parents tops bottoms marks windows tree : List ℕ) (n m : ℕ) → t ≡ readTable input → TableHeld t parents tops bottoms marks windows tree n m → Printed (planBytes (held parents tops bottoms marks windows n m)) output r output′ → Printed (runBytes input) output r output′
 unfolding runBytes readingBytes
-plan-printed-as t input output r output′ parents tops bottoms marks tree n m e h p = rw (sym e ∙ h .whole) p
+plan-printed-as t input output r output′ parents tops bottoms marks windows tree n m e h p = rw (sym e ∙ h .whole) p

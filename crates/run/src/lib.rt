@@ -48,16 +48,17 @@ fn print_table(
     tops: &mut [u16],
     bottoms: &[u16],
     marks: &mut [u8],
+    windows: &[u8],
     work: &mut [u16],
     output: &mut [u8],
 ) -> usize
-    requires { ⌜ Accepted (tableOf (now parents) (now tops) (now bottoms) (now marks)) ⌝ }
+    requires { ⌜ Accepted (tableOf (now parents) (now tops) (now bottoms) (now marks) (now windows)) ⌝ }
     requires { ⌜ Spanned (now parents) (now tree) ⌝ }
     requires { ⌜ Roomy (length (now tops)) (now work) ⌝ }
     requires { ⌜ outputBytes ≤ length (now output) ⌝ }
-    ensures { λ r. ⌜ Printed (planBytes (tableOf (now (parents .entry)) (now (tops .entry)) (now (bottoms .entry)) (now (marks .entry)))) (now (output .entry)) r (now (output .exit)) ⌝ }
+    ensures { λ r. ⌜ Printed (planBytes (tableOf (now (parents .entry)) (now (tops .entry)) (now (bottoms .entry)) (now (marks .entry)) (now (windows .entry)))) (now (output .entry)) r (now (output .exit)) ⌝ }
 {
-    let totals = passes::make_passes(parents, tree, tops, bottoms, marks, work);
+    let totals = passes::make_passes(parents, tree, tops, bottoms, marks, windows, work);
     print::print_plan(parents, tree, tops, bottoms, work, totals, output)
 }
 
@@ -68,15 +69,24 @@ fn run_in(
     tops: &mut [u16],
     bottoms: &mut [u16],
     marks: &mut [u8],
+    windows: &mut [u8],
     work: &mut [u16],
 ) -> usize
     requires { ⌜ outputBytes ≤ length (now output) ⌝ }
-    requires { ⌜ ArraysFor (now input) (now tops) (now bottoms) (now marks) (now work) ⌝ }
+    requires { ⌜ ArraysFor (now input) (now tops) (now bottoms) (now marks) (now windows) (now work) ⌝ }
     ensures { λ r. ⌜ Printed (runBytes (now (input .entry))) (now (output .entry)) r (now (output .exit)) ⌝ }
 {
     let mut parents = [model::ABSENT; LayoutNumber::LIMIT];
     let mut tree = [0u16; TREE];
-    let reading = table::read_lines(input, &mut parents, tops, bottoms, marks, &mut tree);
+    let reading = table::read_lines(
+        input,
+        &mut parents,
+        tops,
+        bottoms,
+        marks,
+        windows,
+        &mut tree,
+    );
     match reading {
         TableRead::Refused(r) => print_refusal(output, r),
         TableRead::Read(c) => {
@@ -88,6 +98,7 @@ fn run_in(
                 &mut tops[..jobs],
                 &bottoms[..jobs],
                 &mut marks[..jobs],
+                &windows[..jobs],
                 work,
                 output,
             )
@@ -104,6 +115,7 @@ fn run_few(input: &[u8], output: &mut [u8]) -> usize
     let mut tops = [model::ABSENT; FEW];
     let mut bottoms = [model::ABSENT; FEW];
     let mut marks = [0u8; FEW];
+    let mut windows = [0u8; FEW];
     let mut work = [0u16; 8 * FEW];
     run_in(
         input,
@@ -111,6 +123,7 @@ fn run_few(input: &[u8], output: &mut [u8]) -> usize
         &mut tops,
         &mut bottoms,
         &mut marks,
+        &mut windows,
         &mut work,
     )
 }
@@ -124,6 +137,7 @@ fn run_some(input: &[u8], output: &mut [u8]) -> usize
     let mut tops = [model::ABSENT; SOME];
     let mut bottoms = [model::ABSENT; SOME];
     let mut marks = [0u8; SOME];
+    let mut windows = [0u8; SOME];
     let mut work = [0u16; 8 * SOME];
     run_in(
         input,
@@ -131,6 +145,7 @@ fn run_some(input: &[u8], output: &mut [u8]) -> usize
         &mut tops,
         &mut bottoms,
         &mut marks,
+        &mut windows,
         &mut work,
     )
 }
@@ -143,6 +158,7 @@ fn run_many(input: &[u8], output: &mut [u8]) -> usize
     let mut tops = [model::ABSENT; JobNumber::LIMIT];
     let mut bottoms = [model::ABSENT; JobNumber::LIMIT];
     let mut marks = [0u8; JobNumber::LIMIT];
+    let mut windows = [0u8; JobNumber::LIMIT];
     let mut work = [0u16; schedule::WORK];
     run_in(
         input,
@@ -150,6 +166,7 @@ fn run_many(input: &[u8], output: &mut [u8]) -> usize
         &mut tops,
         &mut bottoms,
         &mut marks,
+        &mut windows,
         &mut work,
     )
 }

@@ -1,6 +1,6 @@
 -- Where a schedule, and the passes that the sweep makes of it, stand in the work cells: in parts of n cells, n the number of places. Part 0 has the job
--- at each place, and the sweep leaves it alone.
-use Prim.Native.Nat.{ℕ, _+_, _*_}
+-- at each place, and the sweep leaves it alone. A job and its window share a cell: no job number reaches 4,096.
+use Prim.Native.Nat.{ℕ, suc, _+_, _-_, _*_, _/_, _%_, _<_, _≤_}
 use mathlib.Core.Path.{_≡_}
 use mathlib.Core.Bool.{cond}
 use mathlib.Core.List.{List, map}
@@ -8,6 +8,7 @@ use lib.ListN.{length, getD, take, drop}
 use lib.Dec.{eqb}
 use Rattle.model.specs.Lists.{numbers, lastD, total}
 use Rattle.model.specs.Tree.{FFFF}
+use Rattle.model.specs.Jobs.{jobLimit, windowLimit}
 use Rattle.model.specs.Greedy.{Pass, pair, single}
 use Rattle.model.specs.Planning.{pairCount}
 use Rattle.schedule.specs.Schedule.{Schedule, passesByPlace, totalVisits}
@@ -43,15 +44,42 @@ treePart = 6
 abbrev pub part : ℕ → ℕ → List ℕ → List ℕ
 part n k work = take n (drop (k * n) work)
 
+-- a job with its window in one cell
+abbrev pub orderCell : ℕ → ℕ → ℕ
+orderCell job window = job + window * jobLimit
+
+-- the job at a place, and its window
+abbrev pub jobIn : List ℕ → ℕ → ℕ
+jobIn work p = getD work p 0 % jobLimit
+
+abbrev pub windowIn : List ℕ → ℕ → ℕ
+windowIn work p = getD work p 0 / jobLimit
+
+-- where the shelf of its window begins, and how many slots that has: by window `starts` has where its shelf begins, and shelf v ends where shelf v + 1 begins, or would
+module _ (starts work : List ℕ) where
+  abbrev pub baseIn : ℕ → ℕ
+  baseIn p = getD starts (windowIn work p) 0
+
+  abbrev pub sizeIn : ℕ → ℕ
+  sizeIn p = getD starts (windowIn work p + 1) 0 - baseIn p
+
+-- every place has a window, and a shelf that does not end before it begins
+pub record Shelved (n : ℕ) (starts work : List ℕ) : Type 0 where
+  pub starts-length : length starts ≡ suc windowLimit
+  pub window-known : (p : ℕ) → p < n → windowIn work p < windowLimit
+  pub shelf-rises : (p : ℕ) → p < n → baseIn starts work p ≤ getD starts (windowIn work p + 1) 0
+
 -- the schedule that work cells hold; of the places that can be found there are as many as are due at the last turn
-unfoldable pub scheduleIn : ℕ → List ℕ → Schedule
-scheduleIn n work =
+unfoldable pub scheduleIn : ℕ → List ℕ → List ℕ → Schedule
+scheduleIn n starts work =
     record {
       slots = part n slotPart work;
       froms = part n fromPart work;
       tos = part n toPart work;
       dues = part n duePart work;
       reached = take (lastD (part n duePart work) 0) (drop (reachedPart * n) work);
+      bases = map (baseIn starts work) (numbers n);
+      sizes = map (sizeIn starts work) (numbers n);
     }
 
 -- the pass that place p opens: with its mate, or alone
@@ -63,9 +91,9 @@ unfoldable pub passAt : ℕ → List ℕ → ℕ → Pass
 passAt n work k = passOf n work (getD work (openerPart * n + k) 0)
 
 -- what a sweep of n places over `old` leaves: the passes of the greedy rule over the relation that the schedule defines, with their count and visits
-pub record Swept (n : ℕ) (old : List ℕ) (pairs visits : ℕ) (new : List ℕ) : Type 0 where
+pub record Swept (n : ℕ) (starts old : List ℕ) (pairs visits : ℕ) (new : List ℕ) : Type 0 where
   pub kept : length new ≡ length old
   pub order-kept : take n new ≡ take n old
-  pub passes-are : map (passAt n new) (numbers (length (passesByPlace (scheduleIn n old)))) ≡ passesByPlace (scheduleIn n old)
-  pub pairs-are : pairs ≡ total pairCount (passesByPlace (scheduleIn n old))
-  pub visits-are : visits ≡ totalVisits (scheduleIn n old)
+  pub passes-are : map (passAt n new) (numbers (length (passesByPlace (scheduleIn n starts old)))) ≡ passesByPlace (scheduleIn n starts old)
+  pub pairs-are : pairs ≡ total pairCount (passesByPlace (scheduleIn n starts old))
+  pub visits-are : visits ≡ totalVisits (scheduleIn n starts old)

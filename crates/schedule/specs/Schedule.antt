@@ -1,5 +1,7 @@
--- A schedule: all that the sweep knows of a table, by place in the running order. Places, slots and spans of slots; no tree, layout or job.
-use Prim.Native.Nat.{ℕ, _^_, _<_, _≤_}
+-- A schedule: all that the sweep knows of a table, by place in the running order. Places, slots, spans of slots and shelves; no tree, layout or job. The shelves of all
+-- windows stand side by side over one row of slots, so that a slot or a span of one shelf is one of the row; where a shelf begins and how many slots it has count in the
+-- visits alone.
+use Prim.Native.Nat.{ℕ, _+_, _-_, _^_, _<_, _≤_}
 use mathlib.Core.Path.{_≡_}
 use mathlib.Core.Bool.{Bool, cond, _&&_}
 use mathlib.Core.List.{List}
@@ -20,6 +22,9 @@ pub record Schedule : Type 0 where
   pub dues : List ℕ
   -- the places that can be found, in the order in which the sweep reaches them
   pub reached : List ℕ
+  -- the slot at which the shelf of each place begins, and how many slots it has
+  pub bases : List ℕ
+  pub sizes : List ℕ
 
 module _ (s : Schedule) where
   -- how many places there are
@@ -38,6 +43,12 @@ module _ (s : Schedule) where
   abbrev pub dueAt : ℕ → ℕ
   dueAt p = getD (s .dues) p 0
 
+  abbrev pub baseAt : ℕ → ℕ
+  baseAt p = getD (s .bases) p 0
+
+  abbrev pub sizeAt : ℕ → ℕ
+  sizeAt p = getD (s .sizes) p 0
+
   -- the relation that the schedule defines: p asks, q is reached at the turn of p, and the slot of q lies in the span that p asks for
   unfoldable pub fits : ℕ → ℕ → Bool
   fits p q =
@@ -47,9 +58,9 @@ module _ (s : Schedule) where
   unfoldable pub passesByPlace : List Pass
   passesByPlace = greedy fits (numbers places)
 
-  -- the visits of the lookup at a place; a place that asks nobody makes none
+  -- the visits of the lookup at a place, in its own shelf; a place that asks nobody makes none
   unfoldable pub visitsAt : ℕ → ℕ
-  visitsAt p = cond (eqb (toAt p) 0) 0 (visits (levels places) (fromAt p) (toAt p))
+  visitsAt p = cond (eqb (toAt p) 0) 0 (visits (levels (sizeAt p)) (fromAt p - baseAt p) (toAt p - baseAt p))
 
   -- the place that is free at its turn in a pass makes the lookup
   unfoldable pub visitsOf : Pass → ℕ
@@ -60,6 +71,12 @@ module _ (s : Schedule) where
   unfoldable pub totalVisits : ℕ
   totalVisits = total visitsOf passesByPlace
 
+  -- how far ahead of each place to look first for its mate: no later place of its shelf comes before that one. 0 tells nothing
+  pub record Near (gaps : List ℕ) : Type 0 where
+    pub gaps-length : length gaps ≡ places
+    pub inside : (p : ℕ) → p < places → p + getD gaps p 0 < places
+    pub first : (p q : ℕ) → p < q → q < places → baseAt p ≤ slotAt q → slotAt q < baseAt p + sizeAt p → p + getD gaps p 0 ≤ q
+
   -- what the sweep relies on
   pub record Sound : Type 0 where
     pub froms-length : length (s .froms) ≡ places
@@ -69,6 +86,10 @@ module _ (s : Schedule) where
     pub slot-once : (p q : ℕ) → p < places → q < places → slotAt p ≡ slotAt q → p ≡ q
     pub to-inside : (p : ℕ) → p < places → toAt p ≤ 2 ^ levels places
     pub asks-nobody : (p : ℕ) → p < places → toAt p ≡ 0 → fromAt p ≡ FFFF
+    -- a span lies in the shelf of its place
+    pub shelf-begins : (p : ℕ) → p < places → 0 < toAt p → baseAt p ≤ fromAt p
+    pub shelf-ends : (p : ℕ) → p < places → toAt p ≤ baseAt p + sizeAt p
+    pub shelf-inside : (p : ℕ) → p < places → sizeAt p ≤ places
     pub due-inside : (p : ℕ) → p < places → dueAt p ≤ length (s .reached)
     pub due-rises : (p q : ℕ) → p ≤ q → q < places → dueAt p ≤ dueAt q
     pub reached-length : length (s .reached) ≤ places

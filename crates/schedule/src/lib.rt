@@ -3,13 +3,18 @@
 use buffers::wide;
 use model::JobNumber;
 use model::Rank;
+use model::WindowNumber;
 ghost use mathlib.Core.Path.{_≡_};
 ghost use Prim.Native.Nat.{_+_, _*_, _<_};
 ghost use lib.ListN.{length, getD, set};
-ghost use Rattle.schedule.specs.InWork.{slotPart, fromPart, toPart, reachedPart, duePart, matePart, openerPart};
+ghost use Rattle.model.specs.Jobs.{jobLimit, windowLimit};
+ghost use Rattle.schedule.specs.InWork.{orderCell, jobIn, windowIn, slotPart, fromPart, toPart, reachedPart, duePart, matePart, openerPart};
 
-// The job at each place.
+// The job at each place, and its window.
 pub const ORDER: usize = 0;
+
+// They share a cell, which has this much for each number of the window: no job number reaches it.
+const WINDOW_STEP: u16 = JobNumber::LIMIT as u16;
 
 // The slot at each place.
 pub const SLOT: usize = 1;
@@ -33,16 +38,50 @@ pub const MATE: usize = FROM;
 
 pub const OPENER: usize = DUE;
 
+// A cell for each window, where its shelf begins, and one more, where the last ends.
+pub const STARTS: usize = WindowNumber::LIMIT + 1;
+
 // Work cells for the most jobs.
 pub const WORK: usize = 8 * JobNumber::LIMIT;
 
 // The job at a place.
 pub fn job_at(work: &[u16], place: Rank) -> JobNumber
     requires { ⌜ place .0 < length (now work) ⌝ }
-    ensures { λ r. ⌜ r .0 ≡ getD (now (work .entry)) (place .0) 0 ⌝ }
+    ensures { λ r. ⌜ r .0 ≡ jobIn (now (work .entry)) (place .0) ⌝ }
 {
     let at = place.0 as usize;
-    JobNumber(work[at])
+    JobNumber(work[at] % WINDOW_STEP)
+}
+
+// The window of the job at a place.
+pub fn window_at(work: &[u16], place: Rank) -> WindowNumber
+    requires { ⌜ place .0 < length (now work) ⌝ }
+    requires { ⌜ windowIn (now work) (place .0) < windowLimit ⌝ }
+    ensures { λ r. ⌜ r .0 ≡ windowIn (now (work .entry)) (place .0) ⌝ }
+{
+    let at = place.0 as usize;
+    WindowNumber((work[at] / WINDOW_STEP) as u8)
+}
+
+// Puts a job at its place, with its window.
+pub fn set_job(work: &mut [u16], place: Rank, job: JobNumber, window: WindowNumber)
+    requires { ⌜ place .0 < length (now work) ⌝ }
+    requires { ⌜ job .0 < jobLimit ⌝ }
+    requires { ⌜ window .0 < windowLimit ⌝ }
+    ensures { λ r. ⌜ now (work .exit) ≡ set (now (work .entry)) (place .0) (orderCell (job .0) (window .0)) ⌝ }
+{
+    let at = place.0 as usize;
+    work[at] = job.0 + window.0 as u16 * WINDOW_STEP;
+}
+
+// The place that a gap ahead of another leads to.
+pub fn near_to(gaps: &[u8], place: Rank) -> Rank
+    requires { ⌜ place .0 < length (now gaps) ⌝ }
+    requires { ⌜ place .0 + getD (now gaps) (place .0) 0 < 65536 ⌝ }
+    ensures { λ r. ⌜ r .0 ≡ place .0 + getD (now (gaps .entry)) (place .0) 0 ⌝ }
+{
+    let at = place.0 as usize;
+    Rank(place.0 + gaps[at] as u16)
 }
 
 // The slot at a place.

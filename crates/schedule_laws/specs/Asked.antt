@@ -1,28 +1,28 @@
--- The slots that a lookup asks for (document 01, "The shelf and its cells"): those whose first leaf lies in the leaf span of the job's highest layout. They are the
--- slots from the number of jobs left of the span up to the number of jobs left of its end.
+-- The slots that a lookup asks for (document 01, "The shelf and its cells"): those of its window whose first leaf lies in the leaf span of the job's highest layout. They are
+-- the slots from the number of the window's jobs left of the span up to the number of them left of its end.
 use Prim.Native.Nat.{ℕ, zero, suc, _+_, _-_, _<_, _≤_}
 use mathlib.Core.Path.{_≡_, refl, sym, ap, _∙_}
 use mathlib.Core.Logic.{⊎-elim}
-use mathlib.Core.Bool.{Bool, true, _&&_, and-false}
+use mathlib.Core.Bool.{Bool, true, _&&_, and-false, and-eq-true-iff}
 use mathlib.Core.List.{List, [], _∷_}
 use native.Mathlib.Omega.{arith}
 use native.Mathlib.Decide.{decLt}
 use lib.ListN.{getD}
-use lib.Dec.{ltb, leb}
-use borrow.Author.Tests.{lt-ltb, le-ltb, le-leb, lt-leb, ltb-true}
+use lib.Dec.{eqb, ltb, leb}
+use borrow.Author.Tests.{eq-eqb, lt-ltb, le-ltb, le-leb, lt-leb, ltb-true}
 use Rattle.model.specs.Lists.{numbersFrom, numbers, select, countWhere}
 use Rattle.model.specs.Tree.{firstLeaf, lastLeaf}
-use Rattle.model.specs.Jobs.{Table, jobs, highest, bottomLeaf}
-use Rattle.model.specs.Order.{leftward, slotOrder, slot, place}
+use Rattle.model.specs.Jobs.{Table, jobs, window, highest, bottomLeaf}
+use Rattle.model.specs.Order.{leftward, windowSize, slotOrder, slot, place}
 use Rattle.model.specs.Visits.{asksFor, askedSlots, askedFrom, askedTo}
 use Rattle.laws.specs.Lists.{getD-mem, mem-all, select-agree}
 use Rattle.laws.specs.Numbers.{numbers-mem, range-head, range-length}
 use Rattle.laws.specs.Sorting.{irreflexive}
-use Rattle.laws.specs.Counting.{count-bound, count-le, count-lt}
+use Rattle.laws.specs.Counting.{count-le, count-lt}
 use Rattle.tree_laws.specs.Spans.{ancestor-span}
 use Rattle.tree_laws.specs.Sharing.{highest-above}
 use Rattle.jobs.specs.Accepted.{Accepted}
-use Rattle.matching.specs.RunningOrder.{lexicographic-true, lexicographic-first, leftward-order, slots-mem, slots-length, slot-count, slot-of-job}
+use Rattle.matching.specs.RunningOrder.{lexicographic-true, lexicographic-first, leftward-order, size-count, slots-mem, slots-length, slot-count, slot-of-job}
 
 -- ---- a span of numbers
 
@@ -61,9 +61,9 @@ module _ (from to : ℕ) where
 -- ---- the slots by first leaf
 
 module _ (tb : Table) where
-  -- how many jobs' first leaves are left of x
-  unfoldable pub leftOf : ℕ → ℕ
-  leftOf x = countWhere (λ (j : ℕ). ltb (bottomLeaf tb j) x) (numbers (jobs tb))
+  -- how many of a window's jobs have their first leaves left of x
+  unfoldable pub leftOf : ℕ → ℕ → ℕ
+  leftOf v x = countWhere (λ (j : ℕ). eqb (window tb j) v && ltb (bottomLeaf tb j) x) (numbers (jobs tb))
 
   leftward-leaf : (i j : ℕ) → leftward tb i j ≡ true → bottomLeaf tb i ≤ bottomLeaf tb j
   unfolding leftward
@@ -74,55 +74,65 @@ module _ (tb : Table) where
   leaf-leftward i j h = lexicographic-first (bottomLeaf tb i) (bottomLeaf tb j) (place tb i) (place tb j) h
 
   -- a slot is below that number exactly if its first leaf is left of x
-  slot-left : (j x : ℕ) → j < jobs tb → bottomLeaf tb j < x → slot tb j < leftOf x
+  slot-left : (j x : ℕ) → j < jobs tb → bottomLeaf tb j < x → slot tb j < leftOf (window tb j) x
   unfolding leftOf
   slot-left j x h l =
       rw (slot-count tb j h)
-      (count-lt (λ (i : ℕ). leftward tb i j) (λ (i : ℕ). ltb (bottomLeaf tb i) x) (jobs tb) j
-      (λ u k e. lt-ltb (bottomLeaf tb u) x (omega (arith, leftward-leaf u j e)))
-      h (irreflexive (λ (j : ℕ). j < jobs tb) (leftward tb) (leftward-order tb) j) (lt-ltb (bottomLeaf tb j) x l))
+      (count-lt (λ (i : ℕ). eqb (window tb i) (window tb j) && leftward tb i j) (λ (i : ℕ). eqb (window tb i) (window tb j) && ltb (bottomLeaf tb i) x) (jobs tb) j
+      (λ u k e.
+      let b = and-eq-true-iff (eqb (window tb u) (window tb j)) (leftward tb u j) .0 e in
+      rw (b .0) (lt-ltb (bottomLeaf tb u) x (omega (arith, leftward-leaf u j (b .1)))))
+      h
+      (rw (irreflexive (λ (j : ℕ). j < jobs tb) (leftward tb) (leftward-order tb) j) (and-false (eqb (window tb j) (window tb j))))
+      (rw (eq-eqb (window tb j) (window tb j) refl) (lt-ltb (bottomLeaf tb j) x l)))
 
-  slot-right : (j x : ℕ) → j < jobs tb → x ≤ bottomLeaf tb j → leftOf x ≤ slot tb j
+  slot-right : (j x : ℕ) → j < jobs tb → x ≤ bottomLeaf tb j → leftOf (window tb j) x ≤ slot tb j
   unfolding leftOf
   slot-right j x h l =
       rw (slot-count tb j h)
-      (count-le (λ (i : ℕ). ltb (bottomLeaf tb i) x) (λ (i : ℕ). leftward tb i j) (jobs tb)
-      (λ u k e. leaf-leftward u j (omega (arith, ltb-true (bottomLeaf tb u) x e))))
+      (count-le (λ (i : ℕ). eqb (window tb i) (window tb j) && ltb (bottomLeaf tb i) x) (λ (i : ℕ). eqb (window tb i) (window tb j) && leftward tb i j) (jobs tb)
+      (λ u k e.
+      let b = and-eq-true-iff (eqb (window tb u) (window tb j)) (ltb (bottomLeaf tb u) x) .0 e in
+      rw (b .0) (leaf-leftward u j (omega (arith, ltb-true (bottomLeaf tb u) x (b .1))))))
 
-  left-bound : (x : ℕ) → leftOf x ≤ jobs tb
+  left-bound : (v x : ℕ) → leftOf v x ≤ windowSize tb v
   unfolding leftOf
-  left-bound x = count-bound (λ (j : ℕ). ltb (bottomLeaf tb j) x) (jobs tb)
+  left-bound v x =
+      rw (size-count tb v)
+      (count-le (λ (j : ℕ). eqb (window tb j) v && ltb (bottomLeaf tb j) x) (λ (j : ℕ). eqb (window tb j) v) (jobs tb)
+      (λ u k e. and-eq-true-iff (eqb (window tb u) v) (ltb (bottomLeaf tb u) x) .0 e .0))
 
   module _ (j x : ℕ) (h : j < jobs tb) where
-    lower : leb (leftOf x) (slot tb j) ≡ leb x (bottomLeaf tb j)
+    lower : leb (leftOf (window tb j) x) (slot tb j) ≡ leb x (bottomLeaf tb j)
     lower = elim (decLt (bottomLeaf tb j) x) [
-      | yes left ↦ rw (lt-leb x (bottomLeaf tb j) left, lt-leb (leftOf x) (slot tb j) (slot-left j x h left)) refl
-      | no right ↦ rw (le-leb x (bottomLeaf tb j) (omega arith), le-leb (leftOf x) (slot tb j) (slot-right j x h (omega arith))) refl
+      | yes left ↦ rw (lt-leb x (bottomLeaf tb j) left, lt-leb (leftOf (window tb j) x) (slot tb j) (slot-left j x h left)) refl
+      | no right ↦ rw (le-leb x (bottomLeaf tb j) (omega arith), le-leb (leftOf (window tb j) x) (slot tb j) (slot-right j x h (omega arith))) refl
     ]
 
-    upper : ltb (slot tb j) (leftOf (suc x)) ≡ leb (bottomLeaf tb j) x
+    upper : ltb (slot tb j) (leftOf (window tb j) (suc x)) ≡ leb (bottomLeaf tb j) x
     upper = elim (decLt x (bottomLeaf tb j)) [
-      | yes right ↦ rw (lt-leb (bottomLeaf tb j) x right, le-ltb (slot tb j) (leftOf (suc x)) (slot-right j (suc x) h (omega arith))) refl
-      | no left ↦ rw (le-leb (bottomLeaf tb j) x (omega arith), lt-ltb (slot tb j) (leftOf (suc x)) (slot-left j (suc x) h (omega arith))) refl
+      | yes right ↦ rw (lt-leb (bottomLeaf tb j) x right, le-ltb (slot tb j) (leftOf (window tb j) (suc x)) (slot-right j (suc x) h (omega arith))) refl
+      | no left ↦ rw (le-leb (bottomLeaf tb j) x (omega arith), lt-ltb (slot tb j) (leftOf (window tb j) (suc x)) (slot-left j (suc x) h (omega arith))) refl
     ]
 
   module _ (i : ℕ) where
-    -- the slots asked for as a span: from the number of jobs left of the leaf span up to the number of jobs left of its end
+    -- the slots asked for as a span: from the number of the window's jobs left of the leaf span up to the number of them left of its end
     abbrev start : ℕ
-    start = leftOf (firstLeaf (tb .parents) (highest tb i))
+    start = leftOf (window tb i) (firstLeaf (tb .parents) (highest tb i))
 
     abbrev end : ℕ
-    end = leftOf (suc (lastLeaf (tb .parents) (highest tb i)))
+    end = leftOf (window tb i) (suc (lastLeaf (tb .parents) (highest tb i)))
 
-    -- a job's slot lies there exactly if the first leaf of its bottom lies in the span of the highest layout
-    slot-between : (j : ℕ) → j < jobs tb → between start end (slot tb j) ≡ (leb (firstLeaf (tb .parents) (highest tb i)) (bottomLeaf tb j) && leb (bottomLeaf tb j) (lastLeaf (tb .parents) (highest tb i)))
-    slot-between j h = rw (lower j (firstLeaf (tb .parents) (highest tb i)) h, upper j (lastLeaf (tb .parents) (highest tb i)) h) refl
+    -- a slot of the window lies there exactly if the first leaf of its job's bottom lies in the span of the highest layout
+    slot-between : (j : ℕ) → j < jobs tb → window tb j ≡ window tb i → between start end (slot tb j) ≡ (leb (firstLeaf (tb .parents) (highest tb i)) (bottomLeaf tb j) && leb (bottomLeaf tb j) (lastLeaf (tb .parents) (highest tb i)))
+    slot-between j h w = rw (← w, lower j (firstLeaf (tb .parents) (highest tb i)) h, upper j (lastLeaf (tb .parents) (highest tb i)) h) refl
 
-    asks-between : (s : ℕ) → s < jobs tb → asksFor tb i s ≡ between start end s
+    asks-between : (s : ℕ) → s < windowSize tb (window tb i) → asksFor tb i s ≡ between start end s
     unfolding asksFor
     asks-between s h =
-        let j-known : getD (slotOrder tb) s 0 < jobs tb = slots-mem tb (getD-mem (slotOrder tb) s 0 (rw (slots-length tb) h)) in
-        sym (slot-between (getD (slotOrder tb) s 0) j-known) ∙ ap (between start end) (slot-of-job tb s 0 h)
+        let order = slotOrder tb (window tb i) in
+        let known = slots-mem tb (window tb i) (getD-mem order s 0 (rw (slots-length tb (window tb i)) h)) in
+        sym (slot-between (getD order s 0) (known .0) (known .1)) ∙ ap (between start end) (slot-of-job tb (window tb i) s 0 h)
 
   module _ (a : Accepted tb) (i : ℕ) (known : i < jobs tb) where
     -- a job asks for its own slot
@@ -142,25 +152,26 @@ module _ (tb : Table) where
     pub asked-range : askedSlots tb i ≡ numbersFrom (start i) (end i - start i)
     unfolding askedSlots numbers
     asked-range =
-        select-agree (asksFor tb i) (between (start i) (end i)) (numbers (jobs tb)) (mem-all (λ (s : ℕ). asksFor tb i s ≡ between (start i) (end i) s) (numbers (jobs tb)) (λ s m. asks-between i s (numbers-mem (jobs tb) m)))
-        ∙ select-range (start i) (end i) 0 (jobs tb) (omega (arith, own-start, own-end)) (omega arith) (omega (arith, left-bound (suc (lastLeaf (tb .parents) (highest tb i)))))
+        let size = windowSize tb (window tb i) in
+        select-agree (asksFor tb i) (between (start i) (end i)) (numbers size) (mem-all (λ (s : ℕ). asksFor tb i s ≡ between (start i) (end i) s) (numbers size) (λ s m. asks-between i s (numbers-mem size m)))
+        ∙ select-range (start i) (end i) 0 size (omega (arith, own-start, own-end)) (omega arith) (omega (arith, left-bound (window tb i) (suc (lastLeaf (tb .parents) (highest tb i)))))
 
-    -- so the span begins at the number of jobs left of the leaf span
-    pub from-is : askedFrom tb i ≡ leftOf (firstLeaf (tb .parents) (highest tb i))
+    -- so the span begins at the number of the window's jobs left of the leaf span
+    pub from-is : askedFrom tb i ≡ leftOf (window tb i) (firstLeaf (tb .parents) (highest tb i))
     unfolding askedFrom
     from-is = rw asked-range (range-head (start i) (end i - start i) 0 (omega (arith, own-start, own-end)))
 
-    -- and ends at the number of jobs left of its end
-    pub to-is : askedTo tb i ≡ leftOf (suc (lastLeaf (tb .parents) (highest tb i)))
+    -- and ends at the number of them left of its end
+    pub to-is : askedTo tb i ≡ leftOf (window tb i) (suc (lastLeaf (tb .parents) (highest tb i)))
     unfolding askedTo
     to-is = rw (from-is, asked-range, range-length (start i) (end i - start i)) (omega (arith, own-start, own-end))
 
-    -- the slot of a job is asked for exactly if its first leaf lies in the span of the highest layout of i
-    pub asked-slot : (j : ℕ) → j < jobs tb → (leb (askedFrom tb i) (slot tb j) && ltb (slot tb j) (askedTo tb i)) ≡ (leb (firstLeaf (tb .parents) (highest tb i)) (bottomLeaf tb j) && leb (bottomLeaf tb j) (lastLeaf (tb .parents) (highest tb i)))
-    asked-slot j h = rw (from-is, to-is) (slot-between i j h)
+    -- the slot of a job of the window is asked for exactly if its first leaf lies in the span of the highest layout of i
+    pub asked-slot : (j : ℕ) → j < jobs tb → window tb j ≡ window tb i → (leb (askedFrom tb i) (slot tb j) && ltb (slot tb j) (askedTo tb i)) ≡ (leb (firstLeaf (tb .parents) (highest tb i)) (bottomLeaf tb j) && leb (bottomLeaf tb j) (lastLeaf (tb .parents) (highest tb i)))
+    asked-slot j h w = rw (from-is, to-is) (slot-between i j h w)
 
-    pub asked-bound : askedTo tb i ≤ jobs tb
-    asked-bound = rw to-is (left-bound (suc (lastLeaf (tb .parents) (highest tb i))))
+    pub asked-bound : askedTo tb i ≤ windowSize tb (window tb i)
+    asked-bound = rw to-is (left-bound (window tb i) (suc (lastLeaf (tb .parents) (highest tb i))))
 
     pub asks-itself : slot tb i < askedTo tb i
     asks-itself = rw to-is own-end

@@ -1,17 +1,18 @@
 -- The running order as a numbering of the jobs by place, and Theorem 6 by places (document 01, "The tree and the running order").
-use Prim.Native.Nat.{ℕ, _≤_, _<_}
+use Prim.Native.Nat.{ℕ, _/_, _%_, _≤_, _<_}
 use mathlib.Core.Path.{_≡_, refl, sym, ap, _∙_}
 use mathlib.Core.Bool.{Bool, true, false, _&&_}
 use mathlib.Core.Logic.{_≢_}
-use mathlib.Core.List.{map}
+use mathlib.Core.List.{List, map}
+use native.Mathlib.Nat.{zero-add, mod-add-div', div-eq-of-lt, add-mul-div-right}
 use native.Mathlib.Omega.{arith}
-use lib.ListN.{length-map}
-use lib.Seq.{ext-getD}
+use lib.ListN.{getD, take, length-map}
+use lib.Seq.{ext-getD, getD-take}
 use lib.Dec.{eqb, leb}
 use borrow.Author.Tests.{le-leb, eqb-true, eqb-false}
 use Rattle.model.specs.Lists.{numbers, countWhere}
 use Rattle.model.specs.Tree.{depth, firstLeaf, lastLeaf}
-use Rattle.model.specs.Jobs.{Table, jobs, bottom, bare, highest, highestDepth, shares, bottomLeaf}
+use Rattle.model.specs.Jobs.{Table, jobs, jobLimit, window, bottom, bare, highest, highestDepth, shares, bottomLeaf}
 use Rattle.model.specs.Order.{runningOrder, place}
 use Rattle.laws.specs.Lists.{getD-mem}
 use Rattle.laws.specs.Numbers.{numbers-length, numbers-at}
@@ -19,7 +20,15 @@ use Rattle.laws.specs.Counting.{count-map}
 use Rattle.tree_laws.specs.Sharing.{bare-is, bare-alone, bare-passes, theorem-6-test}
 use Rattle.jobs.specs.Accepted.{Accepted}
 use Rattle.matching.specs.RunningOrder.{running-mem, running-length, running-count, place-of-job, place-earlier, earlier-depth}
-use Rattle.schedule.specs.OfTable.{jobAt}
+use Rattle.schedule.specs.InWork.{orderCell, jobIn, windowIn}
+use Rattle.schedule.specs.OfTable.{jobAt, orderCells}
+
+-- a job and its window, read off their cell
+pub cell-window : (j w : ℕ) → j < jobLimit → orderCell j w / jobLimit ≡ w
+cell-window j w h = add-mul-div-right j w {z = jobLimit} (omega arith) ∙ rw (div-eq-of-lt {n = j} {m = jobLimit} h) (zero-add w)
+
+pub cell-job : (j w : ℕ) → j < jobLimit → orderCell j w % jobLimit ≡ j
+cell-job j w h = omega (arith, mod-add-div' (orderCell j w) jobLimit, cell-window j w h)
 
 module _ (tb : Table) where
   -- at a place stands a job
@@ -40,6 +49,20 @@ module _ (tb : Table) where
   -- to count jobs is to count places
   pub count-places : (f : ℕ → Bool) → countWhere f (numbers (jobs tb)) ≡ countWhere (λ (p : ℕ). f (jobAt tb p)) (numbers (jobs tb))
   count-places f = sym (running-count tb f) ∙ ap (countWhere f) running-list ∙ count-map (jobAt tb) f (numbers (jobs tb))
+
+  -- work cells that hold the running order have the job at each place, and its window
+  module _ (few : jobs tb ≤ jobLimit) (work : List ℕ) (order : take (jobs tb) work ≡ orderCells tb) (p : ℕ) (h : p < jobs tb) where
+    cell-is : getD work p 0 ≡ orderCell (jobAt tb p) (window tb (jobAt tb p))
+    cell-is =
+        sym (getD-take (jobs tb) work p 0 h)
+        ∙ ap (λ (l : List ℕ). getD l p 0) order
+        ∙ numbers-at (λ (p : ℕ). orderCell (jobAt tb p) (window tb (jobAt tb p))) (jobs tb) p 0 h
+
+    pub job-in : jobIn work p ≡ jobAt tb p
+    job-in = rw cell-is (cell-job (jobAt tb p) (window tb (jobAt tb p)) (omega (arith, job-known p h)))
+
+    pub window-in : windowIn work p ≡ window tb (jobAt tb p)
+    window-in = rw cell-is (cell-window (jobAt tb p) (window tb (jobAt tb p)) (omega (arith, job-known p h)))
 
   -- at a later place the highest layout is no deeper
   pub later-depth : (p q : ℕ) → p < q → q < jobs tb → highestDepth tb (jobAt tb q) ≤ highestDepth tb (jobAt tb p)

@@ -1,9 +1,9 @@
 -- The schedule of an accepted table is sound and defines the table's own compatibility (000, Theorem 6, with slots and reach), so the greedy rule over it
 -- makes the plan, and its visits are the cell count.
-use Prim.Native.Nat.{ℕ, _<_, _≤_, _^_}
+use Prim.Native.Nat.{ℕ, _+_, _-_, _<_, _≤_, _^_}
 use mathlib.Core.Path.{_≡_, refl, sym, ap, _∙_}
 use mathlib.Core.Logic.{⊎-elim}
-use mathlib.Core.Bool.{Bool, true, false, cond, not, _&&_, and-eq-true-iff}
+use mathlib.Core.Bool.{Bool, true, false, cond, not, _&&_, and-false, and-eq-true-iff}
 use mathlib.Core.List.{map}
 use native.Mathlib.Omega.{arith}
 use native.Mathlib.Decide.{ℕ-discrete}
@@ -12,8 +12,8 @@ use lib.Dec.{leb, ltb}
 use borrow.Author.Tests.{lt-ltb, le-leb, ne-eqb, not-true}
 use Rattle.model.specs.Lists.{numbers, indexOf, total}
 use Rattle.model.specs.Tree.{FFFF}
-use Rattle.model.specs.Jobs.{Table, jobs, solo, bare, asks, shares, highestDepth}
-use Rattle.model.specs.Order.{slot}
+use Rattle.model.specs.Jobs.{Table, jobs, solo, bare, asks, window, sameWindow, shares, highestDepth}
+use Rattle.model.specs.Order.{windowSize, slot}
 use Rattle.model.specs.Greedy.{compatible, passes}
 use Rattle.model.specs.Visits.{levels, askedFrom, askedTo, lookupVisits, passVisits, cellCount}
 use Rattle.model.specs.Planning.{pairCount, pairs}
@@ -24,28 +24,35 @@ use Rattle.laws.specs.Places.{index-getD}
 use Rattle.laws.specs.Levels.{levels-wide}
 use Rattle.laws.specs.Counting.{count-bound}
 use Rattle.jobs.specs.Accepted.{Accepted}
-use Rattle.matching.specs.Compatible.{compatible-asks}
-use Rattle.matching.specs.RunningOrder.{place-of-job, slot-lt, slot-injective}
+use Rattle.matching.specs.Compatible.{window-same, compatible-asks}
+use Rattle.matching.specs.RunningOrder.{place-of-job}
 use Rattle.matching.specs.Renamed.{renamed, greedy-renamed, pairs-renamed, total-renamed}
-use Rattle.schedule.specs.Schedule.{places, slotAt, fromAt, toAt, dueAt, fits, passesByPlace, visitsAt, visitsOf, totalVisits, Sound}
-use Rattle.schedule.specs.OfTable.{jobAt, asking, bottomDepth, reachOrder, due, scheduleOf}
+use Rattle.schedule.specs.Schedule.{places, slotAt, fromAt, toAt, dueAt, baseAt, sizeAt, fits, passesByPlace, visitsAt, visitsOf, totalVisits, Sound}
+use Rattle.schedule.specs.OfTable.{jobAt, asking, bottomDepth, reachOrder, due, shelfBase, rowSlot, rowFrom, rowTo, scheduleOf}
 use Rattle.schedule_laws.specs.Places.{job-known, job-once, running-list, later-depth, theorem-6-by-place}
 use Rattle.schedule_laws.specs.Asked.{asked-slot, asked-bound, asks-itself}
+use Rattle.schedule_laws.specs.Row.{shelf-within, row-lt, row-window, row-once, row-asked}
 use Rattle.schedule_laws.specs.ReachOrder.{reachAt, reach-at, reach-length, reach-distinct, reached-deep, due-within, due-later, reached-in-time}
 
-regroup : (a b c : Bool) → (true && a && (c && b)) ≡ ((a && b) && c)
-regroup true true true = refl
-regroup true true false = refl
-regroup true false true = refl
-regroup true false false = refl
-regroup false b c = refl
+-- in one window two share exactly if the later is in the span and deep enough
+regroup : (a b c w share : Bool) → (w ≡ true → share ≡ (c && b)) → (true && a && w && share) ≡ ((a && b) && (w && c))
+regroup a b c true share h = rw (h refl) (by-cases a b c)
+  where
+    by-cases : (a b c : Bool) → (true && a && true && (c && b)) ≡ ((a && b) && (true && c))
+    by-cases true true true = refl
+    by-cases true true false = refl
+    by-cases true false true = refl
+    by-cases true false false = refl
+    by-cases false b c = refl
+regroup true b c false share h = sym (and-false b)
+regroup false b c false share h = refl
 
 module _ (tb : Table) where
   -- ---- what the schedule has at a place
 
   pub places-are : places (scheduleOf tb) ≡ jobs tb
   unfolding scheduleOf
-  places-are = length-map (numbers (jobs tb)) (λ (p : ℕ). slot tb (jobAt tb p)) ∙ numbers-length (jobs tb)
+  places-are = length-map (numbers (jobs tb)) (λ (p : ℕ). rowSlot tb (jobAt tb p)) ∙ numbers-length (jobs tb)
 
   reached-is : scheduleOf tb .reached ≡ reachOrder tb
   unfolding scheduleOf
@@ -62,21 +69,29 @@ module _ (tb : Table) where
   asking-proper p e = not-true (bare tb (jobAt tb p)) (and-eq-true-iff (not (solo tb (jobAt tb p))) (not (bare tb (jobAt tb p))) .0 e .1)
 
   module _ (p : ℕ) (h : p < jobs tb) where
-    slot-is : slotAt (scheduleOf tb) p ≡ slot tb (jobAt tb p)
+    slot-is : slotAt (scheduleOf tb) p ≡ rowSlot tb (jobAt tb p)
     unfolding scheduleOf
-    slot-is = numbers-at (λ (p : ℕ). slot tb (jobAt tb p)) (jobs tb) p 0 h
+    slot-is = numbers-at (λ (p : ℕ). rowSlot tb (jobAt tb p)) (jobs tb) p 0 h
 
-    from-at : fromAt (scheduleOf tb) p ≡ cond (asking tb p) (askedFrom tb (jobAt tb p)) FFFF
+    from-at : fromAt (scheduleOf tb) p ≡ cond (asking tb p) (rowFrom tb (jobAt tb p)) FFFF
     unfolding scheduleOf
-    from-at = numbers-at (λ (p : ℕ). cond (asking tb p) (askedFrom tb (jobAt tb p)) FFFF) (jobs tb) p 0 h
+    from-at = numbers-at (λ (p : ℕ). cond (asking tb p) (rowFrom tb (jobAt tb p)) FFFF) (jobs tb) p 0 h
 
-    to-at : toAt (scheduleOf tb) p ≡ cond (asking tb p) (askedTo tb (jobAt tb p)) 0
+    to-at : toAt (scheduleOf tb) p ≡ cond (asking tb p) (rowTo tb (jobAt tb p)) 0
     unfolding scheduleOf
-    to-at = numbers-at (λ (p : ℕ). cond (asking tb p) (askedTo tb (jobAt tb p)) 0) (jobs tb) p 0 h
+    to-at = numbers-at (λ (p : ℕ). cond (asking tb p) (rowTo tb (jobAt tb p)) 0) (jobs tb) p 0 h
 
     due-is : dueAt (scheduleOf tb) p ≡ due tb p
     unfolding scheduleOf
     due-is = numbers-at (due tb) (jobs tb) p 0 h
+
+    base-is : baseAt (scheduleOf tb) p ≡ shelfBase tb (window tb (jobAt tb p))
+    unfolding scheduleOf
+    base-is = numbers-at (λ (p : ℕ). shelfBase tb (window tb (jobAt tb p))) (jobs tb) p 0 h
+
+    size-is : sizeAt (scheduleOf tb) p ≡ windowSize tb (window tb (jobAt tb p))
+    unfolding scheduleOf
+    size-is = numbers-at (λ (p : ℕ). windowSize tb (window tb (jobAt tb p))) (jobs tb) p 0 h
 
   module _ (a : Accepted tb) where
     -- a place that asks asks for its own slot, so its span does not end at 0
@@ -87,7 +102,7 @@ module _ (tb : Table) where
 
     to-within : (p : ℕ) → p < jobs tb → toAt (scheduleOf tb) p ≤ 2 ^ levels (jobs tb)
     to-within p h = ⊎-elim
-        (λ (e : asking tb p ≡ true). rw (to-at p h, e) (omega (arith, asked-bound tb a (jobAt tb p) (job-known tb p h), levels-wide (jobs tb))))
+        (λ (e : asking tb p ≡ true). rw (to-at p h, e) (omega (arith, asked-bound tb a (jobAt tb p) (job-known tb p h), shelf-within tb (window tb (jobAt tb p)), levels-wide (jobs tb))))
         (λ (e : asking tb p ≡ false). rw (to-at p h, e) (omega arith))
         (answers (asking tb p))
 
@@ -96,6 +111,23 @@ module _ (tb : Table) where
         (λ (e : asking tb p ≡ true). absurd (omega (arith, to-positive p h e)))
         (λ (e : asking tb p ≡ false). rw (from-at p h, e) refl)
         (answers (asking tb p))
+
+    -- a span lies in the shelf of its place
+    from-behind : (p : ℕ) → p < jobs tb → 0 < toAt (scheduleOf tb) p → baseAt (scheduleOf tb) p ≤ fromAt (scheduleOf tb) p
+    from-behind p h some = ⊎-elim
+        (λ (e : asking tb p ≡ true). rw (from-at p h, e, base-is p h) (omega arith))
+        (λ (e : asking tb p ≡ false). let none : toAt (scheduleOf tb) p ≡ 0 = to-at p h ∙ rw e refl in absurd (omega arith))
+        (answers (asking tb p))
+
+    to-before : (p : ℕ) → p < jobs tb → toAt (scheduleOf tb) p ≤ baseAt (scheduleOf tb) p + sizeAt (scheduleOf tb) p
+    to-before p h = ⊎-elim
+        (λ (e : asking tb p ≡ true). rw (to-at p h, e, base-is p h, size-is p h) (omega (arith, asked-bound tb a (jobAt tb p) (job-known tb p h))))
+        (λ (e : asking tb p ≡ false). rw (to-at p h, e) (omega arith))
+        (answers (asking tb p))
+
+    -- a place whose slot lies in the shelf of another is in its window
+    pub same-shelf : (p q : ℕ) → p < jobs tb → q < jobs tb → baseAt (scheduleOf tb) p ≤ slotAt (scheduleOf tb) q → slotAt (scheduleOf tb) q < baseAt (scheduleOf tb) p + sizeAt (scheduleOf tb) p → window tb (jobAt tb p) ≡ window tb (jobAt tb q)
+    same-shelf p q h k begins ends = row-window tb (jobAt tb p) (jobAt tb q) (job-known tb q k) (rw (base-is p h, slot-is q k) at begins) (rw (base-is p h, size-is p h, slot-is q k) at ends)
 
     due-rise : (p q : ℕ) → p ≤ q → q < jobs tb → dueAt (scheduleOf tb) p ≤ dueAt (scheduleOf tb) q
     due-rise p q l h = elim (ℕ-discrete p q) [
@@ -106,13 +138,16 @@ module _ (tb : Table) where
     pub schedule-sound : Sound (scheduleOf tb)
     schedule-sound =
         record {
-          froms-length = unfold scheduleOf in length-map (numbers (jobs tb)) (λ (p : ℕ). cond (asking tb p) (askedFrom tb (jobAt tb p)) FFFF) ∙ sym (length-map (numbers (jobs tb)) (λ (p : ℕ). slot tb (jobAt tb p)));
-          tos-length = unfold scheduleOf in length-map (numbers (jobs tb)) (λ (p : ℕ). cond (asking tb p) (askedTo tb (jobAt tb p)) 0) ∙ sym (length-map (numbers (jobs tb)) (λ (p : ℕ). slot tb (jobAt tb p)));
-          dues-length = unfold scheduleOf in length-map (numbers (jobs tb)) (due tb) ∙ sym (length-map (numbers (jobs tb)) (λ (p : ℕ). slot tb (jobAt tb p)));
-          slot-inside = λ p h. rw (places-are, slot-is p (here p h)) (omega (arith, slot-lt tb (jobAt tb p) (job-known tb p (here p h)), levels-wide (jobs tb)));
-          slot-once = λ p q h k e. job-once tb p q (here p h) (here q k) (slot-injective tb (jobAt tb p) (jobAt tb q) (job-known tb p (here p h)) (job-known tb q (here q k)) (sym (slot-is p (here p h)) ∙ e ∙ slot-is q (here q k)));
+          froms-length = unfold scheduleOf in length-map (numbers (jobs tb)) (λ (p : ℕ). cond (asking tb p) (rowFrom tb (jobAt tb p)) FFFF) ∙ sym (length-map (numbers (jobs tb)) (λ (p : ℕ). rowSlot tb (jobAt tb p)));
+          tos-length = unfold scheduleOf in length-map (numbers (jobs tb)) (λ (p : ℕ). cond (asking tb p) (rowTo tb (jobAt tb p)) 0) ∙ sym (length-map (numbers (jobs tb)) (λ (p : ℕ). rowSlot tb (jobAt tb p)));
+          dues-length = unfold scheduleOf in length-map (numbers (jobs tb)) (due tb) ∙ sym (length-map (numbers (jobs tb)) (λ (p : ℕ). rowSlot tb (jobAt tb p)));
+          slot-inside = λ p h. rw (places-are, slot-is p (here p h)) (omega (arith, row-lt tb (jobAt tb p) (job-known tb p (here p h)), levels-wide (jobs tb)));
+          slot-once = λ p q h k e. job-once tb p q (here p h) (here q k) (row-once tb (jobAt tb p) (jobAt tb q) (job-known tb p (here p h)) (job-known tb q (here q k)) (sym (slot-is p (here p h)) ∙ e ∙ slot-is q (here q k)));
           to-inside = λ p h. rw places-are (to-within p (here p h));
           asks-nobody = λ p h z. asks-none p (here p h) z;
+          shelf-begins = λ p h. from-behind p (here p h);
+          shelf-ends = λ p h. to-before p (here p h);
+          shelf-inside = λ p h. rw (places-are, size-is p (here p h)) (omega (arith, shelf-within tb (window tb (jobAt tb p))));
           due-inside = λ p h. rw (due-is p (here p h), reached-is) (due-within tb p);
           due-rises = λ p q l h. due-rise p q l (here q h);
           reached-length = rw (reached-is, places-are, reach-length tb) (count-bound (asking tb) (jobs tb));
@@ -135,11 +170,11 @@ module _ (tb : Table) where
       p-known = omega arith
 
       -- a place that asks fits a later one that can be found, has its bottom deep enough, and its slot in the span
-      fits-asking : asking tb p ≡ true → fits (scheduleOf tb) p q ≡ ((asking tb q && leb (highestDepth tb (jobAt tb p)) (bottomDepth tb q)) && (leb (askedFrom tb (jobAt tb p)) (slot tb (jobAt tb q)) && ltb (slot tb (jobAt tb q)) (askedTo tb (jobAt tb p))))
+      fits-asking : asking tb p ≡ true → fits (scheduleOf tb) p q ≡ ((asking tb q && leb (highestDepth tb (jobAt tb p)) (bottomDepth tb q)) && (leb (rowFrom tb (jobAt tb p)) (rowSlot tb (jobAt tb q)) && ltb (rowSlot tb (jobAt tb q)) (rowTo tb (jobAt tb p))))
       unfolding fits
       fits-asking e =
-          let from : fromAt (scheduleOf tb) p ≡ askedFrom tb (jobAt tb p) = from-at p p-known ∙ rw e refl in
-          let to : toAt (scheduleOf tb) p ≡ askedTo tb (jobAt tb p) = to-at p p-known ∙ rw e refl in
+          let from : fromAt (scheduleOf tb) p ≡ rowFrom tb (jobAt tb p) = from-at p p-known ∙ rw e refl in
+          let to : toAt (scheduleOf tb) p ≡ rowTo tb (jobAt tb p) = to-at p p-known ∙ rw e refl in
           rw (lt-ltb 0 (toAt (scheduleOf tb) p) (to-positive p p-known e), reached-is, due-is p p-known, reached-deep tb p q h, slot-is q h, from, to) refl
 
       -- one that does not ask fits none
@@ -149,20 +184,25 @@ module _ (tb : Table) where
           let to : toAt (scheduleOf tb) p ≡ 0 = to-at p p-known ∙ rw e refl in
           rw to refl
 
-      shares-asked : asking tb p ≡ true → shares tb (jobAt tb p) (jobAt tb q) ≡ (leb (askedFrom tb (jobAt tb p)) (slot tb (jobAt tb q)) && ltb (slot tb (jobAt tb q)) (askedTo tb (jobAt tb p)) && leb (highestDepth tb (jobAt tb p)) (bottomDepth tb q))
+      shares-asked : asking tb p ≡ true → window tb (jobAt tb q) ≡ window tb (jobAt tb p) → shares tb (jobAt tb p) (jobAt tb q) ≡ (leb (askedFrom tb (jobAt tb p)) (slot tb (jobAt tb q)) && ltb (slot tb (jobAt tb q)) (askedTo tb (jobAt tb p)) && leb (highestDepth tb (jobAt tb p)) (bottomDepth tb q))
       unfolding bottomDepth
-      shares-asked e =
-          rw (asked-slot tb a (jobAt tb p) (job-known tb p p-known) (jobAt tb q) (job-known tb q h))
+      shares-asked e w =
+          rw (asked-slot tb a (jobAt tb p) (job-known tb p p-known) (jobAt tb q) (job-known tb q h) w)
           (theorem-6-by-place tb a (jobAt tb p) (jobAt tb q) (job-known tb p p-known) (job-known tb q h) (asking-proper p e) (rw (place-of-job tb p 0 p-known, place-of-job tb q 0 h) l)
           ∙ rw (le-leb (highestDepth tb (jobAt tb q)) (highestDepth tb (jobAt tb p)) (later-depth tb p q l h)) refl)
 
-      -- jobs are compatible if both ask and they share: a job 0-0 shares with none
-      compatible-is : compatible tb (jobAt tb p) (jobAt tb q) ≡ (asking tb p && asking tb q && shares tb (jobAt tb p) (jobAt tb q))
+      -- jobs are compatible if both ask, are in one window and share: a job 0-0 shares with none
+      compatible-is : compatible tb (jobAt tb p) (jobAt tb q) ≡ (asking tb p && asking tb q && sameWindow tb (jobAt tb p) (jobAt tb q) && shares tb (jobAt tb p) (jobAt tb q))
       compatible-is = rw (← asking-is p, ← asking-is q) (compatible-asks tb (a .tree) (jobAt tb p) (jobAt tb q) (a .downward (jobAt tb p) (job-known tb p p-known)) (a .downward (jobAt tb q) (job-known tb q h)))
 
       pub schedule-fits : fits (scheduleOf tb) p q ≡ compatible tb (jobAt tb p) (jobAt tb q)
       schedule-fits = ⊎-elim
-          (λ (e : asking tb p ≡ true). fits-asking e ∙ sym (compatible-is ∙ rw (e, shares-asked e) (regroup (asking tb q) (leb (highestDepth tb (jobAt tb p)) (bottomDepth tb q)) (leb (askedFrom tb (jobAt tb p)) (slot tb (jobAt tb q)) && ltb (slot tb (jobAt tb q)) (askedTo tb (jobAt tb p))))))
+          (λ (e : asking tb p ≡ true).
+          fits-asking e
+          ∙ rw (row-asked tb a (jobAt tb p) (jobAt tb q) (job-known tb p p-known) (job-known tb q h))
+          (sym (compatible-is ∙ rw e
+          (regroup (asking tb q) (leb (highestDepth tb (jobAt tb p)) (bottomDepth tb q)) (leb (askedFrom tb (jobAt tb p)) (slot tb (jobAt tb q)) && ltb (slot tb (jobAt tb q)) (askedTo tb (jobAt tb p)))
+          (sameWindow tb (jobAt tb p) (jobAt tb q)) (shares tb (jobAt tb p) (jobAt tb q)) (λ w. shares-asked e (sym (window-same tb (jobAt tb p) (jobAt tb q) w)))))))
           (λ (e : asking tb p ≡ false). fits-silent e ∙ sym (compatible-is ∙ rw e refl))
           (answers (asking tb p))
 
@@ -188,9 +228,9 @@ module _ (tb : Table) where
     unfolding visitsAt lookupVisits
     visits-at p h = ⊎-elim
         (λ (e : asking tb p ≡ true).
-        let from : fromAt (scheduleOf tb) p ≡ askedFrom tb (jobAt tb p) = from-at p h ∙ rw e refl in
-        let to : toAt (scheduleOf tb) p ≡ askedTo tb (jobAt tb p) = to-at p h ∙ rw e refl in
-        rw (ne-eqb (toAt (scheduleOf tb) p) 0 (λ z. omega (arith, to-positive p h e)), from, to, places-are, asking-is p, e) refl)
+        let from : fromAt (scheduleOf tb) p - baseAt (scheduleOf tb) p ≡ askedFrom tb (jobAt tb p) = rw (from-at p h, e, base-is p h) (omega arith) in
+        let to : toAt (scheduleOf tb) p - baseAt (scheduleOf tb) p ≡ askedTo tb (jobAt tb p) = rw (to-at p h, e, base-is p h) (omega arith) in
+        rw (ne-eqb (toAt (scheduleOf tb) p) 0 (λ z. omega (arith, to-positive p h e)), from, to, size-is p h, asking-is p, e) refl)
         (λ (e : asking tb p ≡ false).
         let to : toAt (scheduleOf tb) p ≡ 0 = to-at p h ∙ rw e refl in
         rw (to, asking-is p, e) refl)

@@ -1,6 +1,7 @@
 // A segment tree for the smallest place in a span of slots (document 01, "The shelf and its cells"), in lent cells. Node n stands above nodes 2n and
 // 2n + 1, slot s at width + s. A node holds the smallest place under it, FFFF for none. Only the lower levels are kept: the nodes of the uppermost of these
-// stand side by side, and a search goes along them.
+// stand side by side, and a search goes along them. The shelves of all windows stand side by side over one row of slots, in one tree: a shelf's own measures tell only
+// how many nodes document 01 counts.
 use buffers::larger;
 use buffers::lesser;
 use model::Rank;
@@ -9,7 +10,7 @@ ghost use Prim.Native.Nat.{_-_, _<_, _≤_, min};
 ghost use lib.ListN.{length};
 ghost use lib.Count.{trailingZeros};
 ghost use Rattle.model.specs.Jobs.{jobLimit};
-ghost use Rattle.model.specs.Visits.{visits};
+ghost use Rattle.model.specs.Visits.{levels, visits};
 ghost use Rattle.sweep_laws.specs.SegmentTree.{SegmentTree, Clearable, Cleared, Insertable, Inserted, Removed, entriesIn, smallest, Searchable, Minimum};
 ghost use Rattle.laws.specs.Least.{leastOf};
 ghost use Rattle.sweep_laws.specs.Nodes.{Siblings};
@@ -17,45 +18,61 @@ ghost use Rattle.sweep_laws.specs.NodeSpans.{nodeAt, Narrowable, Narrowed};
 ghost use Rattle.sweep_laws.specs.VisitCount.{levelsInside, levelsApart, Countable};
 ghost use Rattle.sweep_laws.specs.Levels.{ShapeFor};
 
-// The measures of a tree: it has `width`, that is 2 ^ levels, slots, and the nodes from `kept` on. They are found by doubling, so that a compiler takes
-// them for plain numbers.
+// The measures of a tree: it has `width` slots, and the nodes from `kept` on, so `kept` of them on the uppermost level.
 pub struct Shape {
-    pub levels: usize,
     pub kept: usize,
     pub width: usize,
 }
 
-// How many nodes the uppermost level that is kept has, at most: a compiler compares many side by side at once, so that a search goes along all of them in a few
-// dozen steps, and a tree with no more slots needs no other nodes.
-const KEPT: usize = 512;
+// Where a shelf begins in the row of slots, and how many slots it has.
+pub struct Shelf {
+    pub base: usize,
+    pub size: usize,
+}
 
-fn kept_for(width: usize) -> usize
+impl Shelf {
+    // The shelf of the slots from `begin` up to `end`.
+    pub fn between(begin: u16, end: u16) -> Shelf
+        requires { ⌜ begin ≤ end ⌝ }
+        ensures { λ r. ⌜ (r .base ≡ begin) × (r .size ≡ end - begin) ⌝ }
+    {
+        Shelf {
+            base: begin as usize,
+            size: (end - begin) as usize,
+        }
+    }
+}
+
+// How many nodes the uppermost level that is kept has, at most, where a shelf may take the whole row: a compiler compares many side by side at once, so that a search
+// goes along all of them in a few dozen steps, and a tree with no more slots needs no other nodes.
+const KEPT: usize = 1024;
+
+// How many it has, by the longest shelf: twice as many where that takes no more than half of the tree's slots, and so on, since a search does not leave its
+// shelf.
+fn kept_for(width: usize, longest: usize) -> usize
     requires { ⌜ 1 ≤ width ⌝ }
     ensures { λ r. ⌜ (1 ≤ r) × (r ≤ width) ⌝ }
 {
-    if width < KEPT {
-        return width;
+    let mut kept = lesser(width, KEPT);
+    let mut slots = longest;
+    while larger(slots, kept) <= width / 2 {
+        slots *= 2;
+        kept *= 2;
     }
-    KEPT
+    kept
 }
 
-// The shape for so many places: the smallest power of two that holds them.
-pub fn shape_for(count: usize) -> Shape
+// The shape for so many places, of which the longest shelf has `longest`: as wide as the smallest power of two that holds them.
+pub fn shape_for(count: usize, longest: usize) -> Shape
     requires { ⌜ count ≤ jobLimit ⌝ }
-    ensures { λ r. ⌜ ShapeFor count (r .levels) (r .kept) (r .width) ⌝ }
+    ensures { λ r. ⌜ ShapeFor count (r .kept) (r .width) ⌝ }
 {
-    let mut levels = 0;
     let mut width = 1;
     while width < count {
         width *= 2;
-        levels += 1;
     }
-    let kept = kept_for(width);
-    Shape {
-        levels,
-        kept,
-        width,
-    }
+    let kept = kept_for(width, longest);
+    Shape { kept, width }
 }
 
 // The smaller of two places.
@@ -101,7 +118,7 @@ fn sibling(node: usize) -> usize
     node ^ 1
 }
 
-// Empties a slot: each node above it takes the smaller of what is left under it and its sibling's.
+// Empties a slot: each node above it takes the smaller of its two children again.
 pub fn remove(nodes: &mut [u16], shape: Shape, slot: usize)
     requires { ⌜ SegmentTree (shape .kept) (shape .width) (now nodes) ⌝ }
     requires { ⌜ slot < shape .width ⌝ }
@@ -115,6 +132,14 @@ pub fn remove(nodes: &mut [u16], shape: Shape, slot: usize)
         node /= 2;
         nodes[node] = least.0;
     }
+}
+
+// How many levels the tree of a shelf of so many slots has, below its topmost node: as many as its last slot has binary digits.
+fn levels_of(size: usize) -> usize
+    requires { ⌜ 1 ≤ size ⌝ }
+    ensures { λ r. ⌜ r ≡ levels size ⌝ }
+{
+    64 - usize::leading_zeros(size - 1) as usize
 }
 
 // How many levels have a node with x strictly inside: x is a border of a node as long as its trailing zeros last.
@@ -136,7 +161,7 @@ fn levels_apart(levels: usize, from: usize, to: usize) -> usize
     larger(digit, zeros) - zeros
 }
 
-// How many nodes document 01 counts for a lookup of the slots from `from` up to `to`, which are not none: the topmost, and two for each node with an end strictly
+// How many nodes document 01 counts for a lookup of the slots from `from` up to `to`, of which there are some: the topmost, and two for each node with an end strictly
 // inside.
 fn count_visits(levels: usize, from: usize, to: usize) -> u32
     requires { ⌜ Countable levels from to ⌝ }
@@ -154,7 +179,7 @@ struct Span {
 }
 
 // Narrows a span of nodes, level by level up to the uppermost that is kept: the first and the last node are taken in, and what is left is the span of
-// their parents.
+// the parents that lie wholly inside.
 fn narrow(nodes: &[u16], shape: Shape, from: usize, to: usize) -> Span
     requires { ⌜ Narrowable (shape .kept) (shape .width) (now nodes) from to ⌝ }
     ensures { λ r. ⌜ Narrowed (shape .kept) (shape .width) (now (nodes .entry)) from to (r .left) (r .right) (r .least .0) ⌝ }
@@ -201,18 +226,25 @@ pub struct Found {
     pub visits: u32,
 }
 
-// Looks for the smallest place in the slots from `from` up to `to`. No place in the tree is smaller than `first`: where that stands in the span, in `slot`, there
-// is nothing to search for.
+// The places that can wait in a span: none before the first, and none after the last.
+pub struct Candidates {
+    pub first: Rank,
+    pub last: Rank,
+}
+
+// Looks for the smallest place in the slots from `from` up to `to`, which are a shelf's. Where the first that can wait there does, in `slot`, or comes after the last, there is
+// nothing to search for; another slot than its own costs a search and no more.
 pub fn lookup(
     nodes: &[u16],
     shape: Shape,
+    shelf: Shelf,
     from: usize,
     to: usize,
     slot: usize,
-    first: Rank,
+    candidates: Candidates,
 ) -> Found
-    requires { ⌜ Searchable (shape .levels) (shape .kept) (shape .width) (now nodes) to (first .0) ⌝ }
-    ensures { λ r. ⌜ Minimum (shape .levels) (shape .width) (now (nodes .entry)) from to (r .place .0) (r .visits) ⌝ }
+    requires { ⌜ Searchable (shape .kept) (shape .width) (now nodes) (shelf .base) (shelf .size) from to (candidates .first .0) (candidates .last .0) ⌝ }
+    ensures { λ r. ⌜ Minimum (shape .width) (now (nodes .entry)) (shelf .base) (shelf .size) from to (r .place .0) (r .visits) ⌝ }
 {
     if to <= from {
         return Found {
@@ -220,7 +252,15 @@ pub fn lookup(
             visits: 1,
         };
     }
-    let visits = count_visits(shape.levels, from, to);
+    let visits = count_visits(levels_of(shelf.size), from - shelf.base, to - shelf.base);
+    let first = candidates.first;
+    let last = candidates.last;
+    if last.comes_before(first) {
+        return Found {
+            place: Rank(model::ABSENT),
+            visits,
+        };
+    }
     if from <= slot && slot < to {
         if first.equals(Rank(nodes[shape.width + slot])) {
             return Found {

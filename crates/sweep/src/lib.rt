@@ -1,18 +1,23 @@
 // The sweep over a schedule (000, Algorithm 2): each place still free at its turn takes the smallest place that waits in the span that it asks for. It
-// knows places, slots and spans of slots; no tree of layouts, layout or job.
+// knows places, slots, spans of slots, and shelves by window; no tree of layouts, layout or job.
+use buffers::larger;
+use buffers::wide;
 use model::Rank;
 use schedule::NODES;
+use schedule::STARTS;
+use segment_tree::Candidates;
 use segment_tree::Found;
 use segment_tree::Shape;
+use segment_tree::Shelf;
 ghost use mathlib.Core.Path.{_≡_};
-ghost use Prim.Native.Nat.{ℕ, _+_, _*_, _<_, _≤_};
+ghost use mathlib.Core.Bool.{false};
+ghost use Prim.Native.Nat.{ℕ, _+_, _*_, _<_, _≤_, max};
 ghost use lib.ListN.{length, getD};
-ghost use Rattle.model.specs.Jobs.{jobLimit};
 ghost use Rattle.schedule.specs.Schedule.{Schedule};
 ghost use Rattle.schedule.specs.InWork.{slotPart, treePart, Swept};
-ghost use Rattle.sweep_laws.specs.SegmentTree.{entriesIn, insertEntry, removeEntry, Minimum};
+ghost use Rattle.sweep_laws.specs.SegmentTree.{entriesIn, insertEntry, removeEntry};
 ghost use Rattle.sweep_laws.specs.WorkCells.{treeIn, TreeChanged};
-ghost use Rattle.sweep_laws.specs.Sweeping.{Sweepable, Sweeping, PlaceInsertable, PlaceRemovable, Pairable, paired, MateSearchable, Asking, Chosen, Underway, ReachedAt, SteppedFrom};
+ghost use Rattle.sweep_laws.specs.Sweeping.{Sweepable, ShelfKnown, ShelfAt, Sweeping, UpTo, PlaceInsertable, PlaceRemovable, Pairable, paired, MateSearchable, PassedBy, MateFound, Asking, Chosen, Steppable, ReachedAt, SteppedFrom};
 
 // What a sweep comes to: how many passes have two places, and how many nodes document 01 counts for its lookups.
 pub struct Matched {
@@ -20,9 +25,15 @@ pub struct Matched {
     pub visits: u32,
 }
 
-// How far a sweep has come: how many of the places that can be found are reached, and what it has made.
-struct Progress {
+// How far the sweep has reached: how many of the places that can be found, and a place that none of these comes after.
+struct Reached {
     next: usize,
+    last: Rank,
+}
+
+// How far a sweep has come: what it has reached, and what it has made.
+struct Progress {
+    reached: Reached,
     passes: usize,
     pairs: u16,
     visits: u32,
@@ -48,19 +59,37 @@ fn remove_place(work: &mut [u16], count: usize, shape: Shape, place: Rank)
     segment_tree::remove(&mut work[start..], shape, slot);
 }
 
-// Inserts what is reached at the turn of a place, `next` being reached before, and answers how many are reached then.
-fn insert_reached(work: &mut [u16], count: usize, shape: Shape, place: Rank, next: usize) -> usize
-    requires { ⌜ ((s : Schedule) × (place .0 < count) × Sweeping s count (shape .kept) (shape .width) (place .0) next (now work)) ⌝ }
-    ensures { λ r. ⌜ ReachedAt count (shape .kept) (shape .width) (place .0) next (now (work .entry)) r (now (work .exit)) ⌝ }
+// The later of two places.
+fn later(a: Rank, b: Rank) -> Rank
+    ensures { λ r. ⌜ r .0 ≡ max (a .0) (b .0) ⌝ }
+{
+    if a.comes_before(b) {
+        return b;
+    }
+    a
+}
+
+// Inserts what is reached at the turn of a place, and answers what is reached then.
+fn insert_reached(
+    work: &mut [u16],
+    count: usize,
+    shape: Shape,
+    place: Rank,
+    before: Reached,
+) -> Reached
+    requires { ⌜ ((s : Schedule) × (place .0 < count) × Sweeping s count (shape .kept) (shape .width) (place .0) (before .next) (now work) × UpTo s count (before .next) (before .last .0)) ⌝ }
+    ensures { λ r. ⌜ ReachedAt count (shape .kept) (shape .width) (place .0) (before .next) (before .last .0) (now (work .entry)) (r .next) (r .last .0) (now (work .exit)) ⌝ }
 {
     let due = schedule::due_at(work, count, place);
-    let mut at = next;
+    let mut last = before.last;
+    let mut at = before.next;
     while at < due {
         let reached = schedule::reached_at(work, count, at);
         insert_place(work, count, shape, reached);
+        last = later(last, reached);
         at += 1;
     }
-    due
+    Reached { next: due, last }
 }
 
 // Leaves each of two places as the mate of the other; the later asks nobody any more.
@@ -73,38 +102,109 @@ fn set_pair(work: &mut [u16], count: usize, place: Rank, mate: Rank)
     schedule::end_asking(work, count, mate);
 }
 
-// The slot of the place after this one, if there is one. It tells where to look first and nothing rests on it, so nothing is promised of it.
-fn slot_after(work: &[u16], count: usize, place: Rank) -> usize
-    requires { ⌜ place .0 < count ⌝ }
-    requires { ⌜ count ≤ jobLimit ⌝ }
-    requires { ⌜ treePart * count ≤ length (now work) ⌝ }
+// The shelf of a place, that of its job's window.
+fn shelf_of(work: &[u16], starts: &[u16; STARTS], place: Rank) -> Shelf
+    requires { ⌜ ShelfKnown (now starts) (place .0) (now work) ⌝ }
+    ensures { λ r. ⌜ ShelfAt (now (starts .entry)) (now (work .entry)) (place .0) (r .base) (r .size) ⌝ }
 {
-    let next = place.next();
-    if next.is_among(count) {
-        return schedule::slot_at(work, count, next);
+    let window = schedule::window_at(work, place).0 as usize;
+    Shelf::between(starts[window], starts[window + 1])
+}
+
+// A span of so many slots is wide: a search of it takes longer than a few tries.
+const WIDE_SPAN: usize = 256;
+
+// How many places are tried in a wide span, at most.
+const TRIES: usize = 8;
+
+// Whether a place waits in the slots from `from` up to `to`. Only `false` is promised: where the answer is `true`, the lookup tests the place again.
+fn waits(work: &[u16], count: usize, shape: Shape, place: Rank, from: usize, to: usize) -> bool
+    requires { ⌜ slotPart * count + place .0 < length (now work) ⌝ }
+    requires { ⌜ treePart * count + 2 * shape .width ≤ length (now work) ⌝ }
+    requires { ⌜ to ≤ shape .width ⌝ }
+    ensures { λ r. ⌜ (r ≡ false → PassedBy count (shape .width) from to (place .0) (now (work .entry))) ⌝ }
+{
+    let slot = schedule::slot_at(work, count, place);
+    if slot < from {
+        return false;
     }
-    count
+    if to <= slot {
+        return false;
+    }
+    let leaf = NODES * count + shape.width + slot;
+    place.equals(Rank(work[leaf]))
 }
 
-// Looks for the mate of a place that waits no longer, in the slots from `from` up to `to`. The next place is the first that can be its mate.
-fn find_mate(work: &[u16], count: usize, shape: Shape, place: Rank, from: usize, to: usize) -> Found
-    requires { ⌜ MateSearchable count (shape .levels) (shape .kept) (shape .width) (place .0) to (now work) ⌝ }
-    ensures { λ r. ⌜ Minimum (shape .levels) (shape .width) (treeIn count (now (work .entry))) from to (r .place .0) (r .visits) ⌝ }
+// The first place that can be the mate of a place, further on than told where its span is wide: up to TRIES places that do not wait there are passed by.
+fn approach(
+    work: &[u16],
+    count: usize,
+    shape: Shape,
+    place: Rank,
+    candidates: Candidates,
+    to: usize,
+) -> Rank
+    requires { ⌜ ((base : ℕ) × (size : ℕ) × MateSearchable count (shape .kept) (shape .width) base size (place .0) (candidates .first .0) (candidates .last .0) to (now work)) ⌝ }
+    ensures { λ r. ⌜ ((base size : ℕ) → MateSearchable count (shape .kept) (shape .width) base size (place .0) (candidates .first .0) (candidates .last .0) to (now (work .entry)) → MateSearchable count (shape .kept) (shape .width) base size (place .0) (r .0) (candidates .last .0) to (now (work .entry))) ⌝ }
 {
-    let slot = slot_after(work, count, place);
-    let next = place.next();
-    let start = NODES * count;
-    segment_tree::lookup(&work[start..], shape, from, to, slot, next)
+    let from = schedule::from_at(work, count, place);
+    let last = candidates.last;
+    let mut first = candidates.first;
+    if larger(from, to) - from < WIDE_SPAN {
+        return first;
+    }
+    let mut tries = 0;
+    while tries < TRIES {
+        if last.comes_before(first) {
+            return first;
+        }
+        if waits(work, count, shape, first, from, to) {
+            return first;
+        }
+        first = Rank(first.0 + 1);
+        tries += 1;
+    }
+    first
 }
 
-// The turn of a place that asks for a span that ends at `to`: it waits no longer, and neither does the mate that it finds.
-fn match_place(work: &mut [u16], count: usize, shape: Shape, place: Rank, to: usize) -> Found
-    requires { ⌜ ((s : Schedule) × (next : ℕ) × Asking s count (shape .levels) (shape .kept) (shape .width) (place .0) next to (now work)) ⌝ }
-    ensures { λ r. ⌜ ((s : Schedule) (next : ℕ) → Asking s count (shape .levels) (shape .kept) (shape .width) (place .0) next to (now (work .entry)) → Chosen s count (shape .kept) (shape .width) (place .0) next (now (work .entry)) (r .place .0) (r .visits) (now (work .exit))) ⌝ }
+// Looks for the mate of a place that waits no longer, in the span that it asks for, which ends at `to`.
+fn find_mate(
+    work: &[u16],
+    count: usize,
+    shape: Shape,
+    shelf: Shelf,
+    place: Rank,
+    candidates: Candidates,
+    to: usize,
+) -> Found
+    requires { ⌜ MateSearchable count (shape .kept) (shape .width) (shelf .base) (shelf .size) (place .0) (candidates .first .0) (candidates .last .0) to (now work) ⌝ }
+    ensures { λ r. ⌜ MateFound count (shape .width) (shelf .base) (shelf .size) (place .0) to (now (work .entry)) (r .place .0) (r .visits) ⌝ }
+{
+    let last = candidates.last;
+    let first = approach(work, count, shape, place, candidates, to);
+    let further = Candidates { first, last };
+    let from = schedule::from_at(work, count, place);
+    // No slot where the first comes after the last place of all: then the lookup does not look at it.
+    let slot = schedule::slot_at(work, count, first);
+    let start = NODES * count;
+    segment_tree::lookup(&work[start..], shape, shelf, from, to, slot, further)
+}
+
+// The turn of a place that asks for a span of its shelf that ends at `to`: it waits no longer, and neither does the mate that it finds.
+fn match_place(
+    work: &mut [u16],
+    count: usize,
+    shape: Shape,
+    shelf: Shelf,
+    place: Rank,
+    candidates: Candidates,
+    to: usize,
+) -> Found
+    requires { ⌜ ((s : Schedule) × (next : ℕ) × Asking s count (shape .kept) (shape .width) (shelf .base) (shelf .size) (place .0) (candidates .first .0) (candidates .last .0) next to (now work)) ⌝ }
+    ensures { λ r. ⌜ ((s : Schedule) (next : ℕ) → Asking s count (shape .kept) (shape .width) (shelf .base) (shelf .size) (place .0) (candidates .first .0) (candidates .last .0) next to (now (work .entry)) → Chosen s count (shape .kept) (shape .width) (place .0) next (now (work .entry)) (r .place .0) (r .visits) (now (work .exit))) ⌝ }
 {
     remove_place(work, count, shape, place);
-    let from = schedule::from_at(work, count, place);
-    let found = find_mate(work, count, shape, place, from, to);
+    let found = find_mate(work, count, shape, shelf, place, candidates, to);
     let mate = found.place;
     if mate.is_none() {
         schedule::set_mate(work, count, place, mate);
@@ -116,37 +216,52 @@ fn match_place(work: &mut [u16], count: usize, shape: Shape, place: Rank, to: us
 }
 
 // The turn of a place: what is due is reached, and the place, unless it is taken, opens a pass, with the mate that it finds or alone.
-fn step(work: &mut [u16], count: usize, shape: Shape, place: Rank, progress: Progress) -> Progress
-    requires { ⌜ ((s : Schedule) × (place .0 < count) × Underway s count (shape .levels) (shape .kept) (shape .width) (place .0) (progress .next) (progress .passes) (progress .pairs) (progress .visits) (now work)) ⌝ }
-    ensures { λ r. ⌜ SteppedFrom count (shape .levels) (shape .kept) (shape .width) (place .0) (progress .next) (progress .passes) (progress .pairs) (progress .visits) (now (work .entry)) (r .next) (r .passes) (r .pairs) (r .visits) (now (work .exit)) ⌝ }
+fn step(
+    work: &mut [u16],
+    count: usize,
+    starts: &[u16; STARTS],
+    gaps: &[u8],
+    shape: Shape,
+    place: Rank,
+    progress: Progress,
+) -> Progress
+    requires { ⌜ Steppable count (now starts) (now gaps) (shape .kept) (shape .width) (place .0) (progress .reached .next) (progress .reached .last .0) (progress .passes) (progress .pairs) (progress .visits) (now work) ⌝ }
+    ensures { λ r. ⌜ SteppedFrom count (now (starts .entry)) (now (gaps .entry)) (shape .kept) (shape .width) (place .0) (progress .reached .next) (progress .reached .last .0) (progress .passes) (progress .pairs) (progress .visits) (now (work .entry)) (r .reached .next) (r .reached .last .0) (r .passes) (r .pairs) (r .visits) (now (work .exit)) ⌝ }
 {
     let passes = progress.passes;
     let pairs = progress.pairs;
     let visits = progress.visits;
-    let next = insert_reached(work, count, shape, place, progress.next);
+    let reached_before = progress.reached;
+    let reached = insert_reached(work, count, shape, place, reached_before);
+    // The span ends at 0 where the place asks nobody, or is taken.
     let to = schedule::to_at(work, count, place);
     if 0 < to {
-        let found = match_place(work, count, shape, place, to);
+        let shelf = shelf_of(work, starts, place);
+        let first = schedule::near_to(gaps, place);
+        let last = reached.last;
+        let candidates = Candidates { first, last };
+        let found = match_place(work, count, shape, shelf, place, candidates, to);
         schedule::set_opener(work, count, passes, place);
         if found.place.is_none() {
             return Progress {
-                next,
+                reached,
                 passes: passes + 1,
                 pairs,
                 visits: visits + found.visits,
             };
         }
         return Progress {
-            next,
+            reached,
             passes: passes + 1,
             pairs: pairs + 1,
             visits: visits + found.visits,
         };
     }
+    // A place that is taken has a mate, which opened their pass.
     let mate = schedule::mate_at(work, count, place);
     if !mate.is_none() {
         return Progress {
-            next,
+            reached,
             passes,
             pairs,
             visits,
@@ -154,30 +269,46 @@ fn step(work: &mut [u16], count: usize, shape: Shape, place: Rank, progress: Pro
     }
     schedule::set_opener(work, count, passes, place);
     Progress {
-        next,
+        reached,
         passes: passes + 1,
         pairs,
         visits,
     }
 }
 
-// Every place has its turn, in the running order.
-pub fn sweep(work: &mut [u16], count: usize) -> Matched
-    requires { ⌜ Sweepable count (now work) ⌝ }
-    ensures { λ r. ⌜ Swept count (now (work .entry)) (r .pairs) (r .visits) (now (work .exit)) ⌝ }
+// How many slots the longest shelf has. Only the speed depends on it, so nothing is promised.
+fn longest_shelf(starts: &[u16; STARTS]) -> usize {
+    let mut longest = 0;
+    let mut window = 0;
+    while window + 1 < STARTS {
+        let begin = wide(starts[window]);
+        let end = larger(begin, wide(starts[window + 1]));
+        longest = larger(longest, end - begin);
+        window += 1;
+    }
+    longest
+}
+
+// Every place has its turn, in the running order. `starts` tells by window where its shelf begins, `gaps` by place how far ahead to look first for its mate.
+pub fn sweep(work: &mut [u16], count: usize, starts: &[u16; STARTS], gaps: &[u8]) -> Matched
+    requires { ⌜ Sweepable count (now starts) (now gaps) (now work) ⌝ }
+    ensures { λ r. ⌜ Swept count (now (starts .entry)) (now (work .entry)) (r .pairs) (r .visits) (now (work .exit)) ⌝ }
 {
-    let shape = segment_tree::shape_for(count);
+    let shape = segment_tree::shape_for(count, longest_shelf(starts));
     let start = NODES * count;
     segment_tree::clear(&mut work[start..], shape);
     let mut progress = Progress {
-        next: 0,
+        reached: Reached {
+            next: 0,
+            last: Rank(0),
+        },
         passes: 0,
         pairs: 0,
         visits: 0,
     };
     let mut i = 0;
     while i < count {
-        progress = step(work, count, shape, Rank(i as u16), progress);
+        progress = step(work, count, starts, gaps, shape, Rank(i as u16), progress);
         i += 1;
     }
     Matched {

@@ -1,6 +1,6 @@
 -- The step of a place that asks: it leaves the segment tree, and so does the mate that it finds; the sweep is then at the next place.
-use Prim.Native.Nat.{ℕ, suc, _+_, _*_, _<_, _≤_, _^_}
-use mathlib.Core.Path.{_≡_, refl, sym, ap, _∙_}
+use Prim.Native.Nat.{ℕ, suc, _+_, _-_, _*_, _<_, _≤_}
+use mathlib.Core.Path.{_≡_, refl, sym, _∙_}
 use mathlib.Core.Logic.{_≢_}
 use mathlib.Core.Bool.{Bool, true, false, true≢false, not, _&&_}
 use mathlib.Core.List.{List, List·Memᴰ as Mem}
@@ -12,13 +12,14 @@ use lib.Dec.{eqb}
 use borrow.Author.Tests.{eq-eqb, ne-eqb, eqb-false, lt-ltb}
 use Rattle.model.specs.Tree.{FFFF}
 use Rattle.model.specs.Jobs.{jobLimit}
+use Rattle.model.specs.Visits.{levels}
 use Rattle.laws.specs.Levels.{levels-least}
-use Rattle.schedule.specs.Schedule.{Schedule, slotAt, fromAt, toAt, visitsAt}
+use Rattle.schedule.specs.Schedule.{Schedule, places, slotAt, fromAt, toAt, baseAt, sizeAt, visitsAt}
 use Rattle.schedule.specs.InWork.{slotPart, fromPart, toPart, reachedPart, duePart, matePart, treePart}
-use Rattle.sweep_laws.specs.SegmentTree.{entriesIn, removeEntry, smallest, Minimum}
+use Rattle.sweep_laws.specs.SegmentTree.{Entry, entriesIn, removeEntry, smallest}
 use Rattle.sweep_laws.specs.VisitBound.{visits-bound}
 use Rattle.sweep_laws.specs.WorkCells.{FrontKept, front-both, front-set-both, treeIn, TreeChanged, tree-set}
-use Rattle.sweep_laws.specs.Sweeping.{freeAt, Waiting, Open, Setting, Cells, Sweeping, Asking, paired, Chosen, PlaceRemovable, MateSearchable, Pairable}
+use Rattle.sweep_laws.specs.Sweeping.{freeAt, Waiting, Open, Setting, Cells, Sweeping, Asking, paired, Chosen, PlaceRemovable, MateSearchable, MateFound, Pairable}
 use Rattle.sweep_laws.specs.WaitingLaws.{waiting-as, waiting-remove}
 use Rattle.sweep_laws.specs.Reaching.{free-kept, cells-kept}
 use Rattle.sweep_laws.specs.Choice.{First, none-chosen, one-chosen}
@@ -103,7 +104,7 @@ module _ (s : Schedule) (n width i q : ℕ) (work : List ℕ) (known : i < n) (i
 -- ---- the step
 
 -- the slot of any place can be emptied
-place-removable : (s : Schedule) (n kept width i : ℕ) (work : List ℕ) (waits : ℕ → Type 0) (p : ℕ) → p < n → Setting s n kept width → Cells s n width i work → Waiting s n kept width waits (treeIn n work) → PlaceRemovable n kept width p work
+place-removable : (s : Schedule) (n kept width i : ℕ) (work : List ℕ) (waits : ℕ → Type 0) (p : ℕ) → p < n → Setting s n width → Cells s n width i work → Waiting s n kept width waits (treeIn n work) → PlaceRemovable n kept width p work
 place-removable s n kept width i work waits p h t c v =
     record {
       inside = h;
@@ -112,7 +113,7 @@ place-removable s n kept width i work waits p h t c v =
       slot-inside = rw (c .slot-cell p h, t .width-is, ← (t .places-are)) (t .sound .slot-inside p (rw (t .places-are) h));
     }
 
-module _ (s : Schedule) (n level kept width i next to : ℕ) (work : List ℕ) (a : Asking s n level kept width i next to work) where
+module _ (s : Schedule) (n kept width base size i first last next to : ℕ) (work : List ℕ) (a : Asking s n kept width base size i first last next to work) where
   abbrev w : Sweeping s n kept width i next work
   w = a .sweeping
 
@@ -130,6 +131,19 @@ module _ (s : Schedule) (n level kept width i next to : ℕ) (work : List ℕ) (
 
   to-at : to ≡ toAt s i
   to-at = a .to-is ∙ w .cells .to-cell i (omega arith) (a .inside) free-here
+
+  -- its shelf
+  place-known : i < places s
+  place-known = rw (w .setting .places-are) (a .inside)
+
+  span-begins : baseAt s i ≤ fromAt s i
+  span-begins = w .setting .sound .shelf-begins i place-known (rw (← to-at) (a .asks))
+
+  span-ends : toAt s i ≤ baseAt s i + sizeAt s i
+  span-ends = w .setting .sound .shelf-ends i place-known
+
+  few-slots : size ≤ jobLimit
+  few-slots = omega (arith, a .size-is, w .setting .sound .shelf-inside i place-known, w .setting .places-are, few)
 
   pub asking-removable : PlaceRemovable n kept width i work
   asking-removable = place-removable s n kept width i work (Open s n i next work) i (a .inside) (w .setting) (w .cells) (w .waiting)
@@ -163,35 +177,53 @@ module _ (s : Schedule) (n level kept width i next to : ℕ) (work : List ℕ) (
     pub asking-room : treePart * n ≤ length work₁
     asking-room = rw (c .front .same) room
 
-    pub asking-searchable : MateSearchable n level kept width i to work₁
+    from-at : getD work₁ (fromPart * n + i) 0 ≡ fromAt s i
+    from-at = c .front .kept (fromPart * n + i) (omega (arith, a .inside)) ∙ w .cells .from-cell i (omega arith) (a .inside) free-here
+
+    -- a place that waits in the span is a later one of the shelf
+    none-nearer : (e : Entry) → Mem e (entriesIn width (treeIn n work₁)) → getD work₁ (fromPart * n + i) 0 ≤ e .slot → e .slot < to → first ≤ e .place
+    none-nearer e m starts below =
+        let o = left .only e m in
+        a .none-before (e .place) (o .waiting .0) (o .inside) (omega (arith, o .at, from-at, span-begins)) (omega (arith, o .at, to-at, span-ends))
+
+    -- a place that waits stands in its slot
+    own-slot : (e : Entry) → Mem e (entriesIn width (treeIn n work₁)) → e .slot ≡ getD work₁ (slotPart * n + e .place) 0
+    own-slot e m =
+        let o = left .only e m in
+        o .at ∙ sym (c .front .kept (slotPart * n + e .place) (omega (arith, o .inside)) ∙ w .cells .slot-cell (e .place) (o .inside))
+
+    pub asking-searchable : MateSearchable n kept width base size i first last to work₁
     asking-searchable =
         record {
           few = few;
           inside = a .inside;
+          first-bounded = omega (arith, a .first-inside);
+          last-inside = a .up-to .inside;
           room = asking-room;
+          own-slot = own-slot;
           search =
               record {
                 tree = c .tree;
-                power = w .setting .width-is ∙ ap (λ (k : ℕ). 2 ^ k) (sym (a .levels-are));
-                inside = rw (to-at, w .setting .width-is, ← (w .setting .places-are)) (w .setting .sound .to-inside i (rw (w .setting .places-are) (a .inside)));
-                some-place = omega (arith, few, a .inside);
-                no-smaller = λ e m. omega (arith, left .only e m .waiting .0);
+                inside = rw (to-at, w .setting .width-is, ← (w .setting .places-are)) (w .setting .sound .to-inside i place-known);
+                few = few-slots;
+                begins = λ _. rw (a .base-is, from-at) span-begins;
+                ends = rw (to-at, a .base-is, a .size-is) span-ends;
+                some-place = omega (arith, few, a .first-inside);
+                no-smaller = none-nearer;
+                no-larger = λ e m starts below. a .up-to .none-later (e .place) (left .only e m .waiting .2);
               };
         }
 
-    module _ (from q v : ℕ) (from-is : from ≡ getD work₁ (fromPart * n + i) 0) (m : Minimum level width (treeIn n work₁) from to q v) where
-      from-at : from ≡ fromAt s i
-      from-at = from-is ∙ c .front .kept (fromPart * n + i) (omega (arith, a .inside)) ∙ w .cells .from-cell i (omega arith) (a .inside) free-here
-
+    module _ (q v : ℕ) (m : MateFound n width base size i to work₁ q v) where
       q-is : q ≡ smallest (entriesIn width (treeIn n work₁)) (fromAt s i) (toAt s i)
       q-is = m .place-is ∙ rw (from-at, to-at) refl
 
       v-is : v ≡ visitsAt s i
       unfolding visitsAt
-      v-is = m .visits-are ∙ rw (a .levels-are, from-at, to-at, ← (w .setting .places-are), ne-eqb (toAt s i) 0 (λ e. omega (arith, a .asks, to-at))) refl
+      v-is = m .visits-are ∙ rw (a .base-is, a .size-is, from-at, to-at, ne-eqb (toAt s i) 0 (λ e. omega (arith, a .asks, to-at))) refl
 
       v-few : v ≤ 49
-      v-few = omega (arith, m .visits-are, visits-bound level from to, a .levels-are, levels-least n 12 (omega (arith, few)))
+      v-few = omega (arith, m .visits-are, visits-bound (levels size) (getD work₁ (fromPart * n + i) 0 - base) (to - base), levels-least size 12 few-slots)
 
       -- none is found
       pub asked-alone : q ≡ FFFF → Chosen s n kept width i next work q v (set work₁ (matePart * n + i) q)
@@ -216,20 +248,20 @@ module _ (s : Schedule) (n level kept width i next to : ℕ) (work : List ℕ) (
 
       -- one is found
       module _ (other : q ≡ FFFF → ⊥) where
-        first : First s n kept width i next work (treeIn n work₁) (omega (arith, few)) (rw (← to-at) (a .asks)) (a .next-is) left
-        first = one-chosen s n kept width i next work (treeIn n work₁) (omega (arith, few)) (rw (← to-at) (a .asks)) (a .next-is) left (λ e. other (q-is ∙ e))
+        choice : First s n kept width i next work (treeIn n work₁) (omega (arith, few)) (rw (← to-at) (a .asks)) (a .next-is) left
+        choice = one-chosen s n kept width i next work (treeIn n work₁) (omega (arith, few)) (rw (← to-at) (a .asks)) (a .next-is) left (λ e. other (q-is ∙ e))
 
         mate-inside : q < n
-        mate-inside = rw q-is (first .inside)
+        mate-inside = rw q-is (choice .inside)
 
         mate-later : i < q
-        mate-later = rw q-is (first .later)
+        mate-later = rw q-is (choice .later)
 
         mate-free : freeAt n work q ≡ true
-        mate-free = rw q-is (first .free)
+        mate-free = rw q-is (choice .free)
 
         mate-reached : Mem q (take next (s .reached))
-        mate-reached = rw q-is (first .reached)
+        mate-reached = rw q-is (choice .reached)
 
         pub mate-removable : PlaceRemovable n kept width q work₁
         mate-removable = place-removable s n kept width i work₁ (Open s n (suc i) next work) q mate-inside (w .setting) (cells-kept n work work₁ (c .front) s width i few-reached (w .cells)) left
@@ -271,5 +303,5 @@ module _ (s : Schedule) (n level kept width i next to : ℕ) (work : List ℕ) (
                 visits-are = v-is;
                 few-visits = v-few;
                 none-found = λ e. absurd (other e);
-                one-found = λ _. record { inside = mate-inside; later = mate-later; free = mate-free; first = rw q-is (first .first); front = front };
+                one-found = λ _. record { inside = mate-inside; later = mate-later; free = mate-free; first = rw q-is (choice .first); front = front };
               }

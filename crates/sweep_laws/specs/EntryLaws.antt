@@ -20,15 +20,15 @@ use Rattle.sweep_laws.specs.SegmentTree.{entriesIn, slots, Entry, entrie
 -- ---- over the entries
 
 module _ (e : Entry) (es : List Entry) (from to : ℕ) where
-  inside : from ≤ e .slot → e .slot < to → smallest (e ∷ es) from to ≡ min (e .place) (smallest es from to)
+  pub inside : from ≤ e .slot → e .slot < to → smallest (e ∷ es) from to ≡ min (e .place) (smallest es from to)
   unfolding smallest
   inside a b = rw (le-leb from (e .slot) a, lt-ltb (e .slot) to b)
 
-  before : e .slot < from → smallest (e ∷ es) from to ≡ smallest es from to
+  pub before : e .slot < from → smallest (e ∷ es) from to ≡ smallest es from to
   unfolding smallest
   before a = rw (lt-leb from (e .slot) a)
 
-  past : to ≤ e .slot → smallest (e ∷ es) from to ≡ smallest es from to
+  pub past : to ≤ e .slot → smallest (e ∷ es) from to ≡ smallest es from to
   unfolding smallest
   past a = rw (le-ltb (e .slot) to a, and-false (leb from (e .slot)))
 
@@ -216,7 +216,7 @@ vacant-slot ps s vacant = elim (ℕ-discrete (getD ps s FFFF) FFFF) [
 ]
 
 -- a slot left of all entries comes first
-insert-first : (ps : List ℕ) (t s p : ℕ) → s < t → insertEntry s p (entriesFrom t ps) ≡ record { slot = s; place = p } ∷ entriesFrom t ps
+pub insert-first : (ps : List ℕ) (t s p : ℕ) → s < t → insertEntry s p (entriesFrom t ps) ≡ record { slot = s; place = p } ∷ entriesFrom t ps
 unfolding insertEntry insertBy leftOf entriesFrom
 insert-first [] t s p h = refl
 insert-first (q ∷ ps) t s p h = elim (ℕ-discrete q FFFF) [
@@ -343,9 +343,9 @@ module _ (width : ℕ) (nodes : List ℕ) (room : 2 * width ≤ length nodes) wh
       ∙ getD-drop width nodes s FFFF
       ∙ getD-inside nodes (width + s) FFFF 0 (omega arith)
 
--- the smallest place that there can be is found in its slot
-pub smallest-first : (width : ℕ) (nodes : List ℕ) → 2 * width ≤ length nodes → (from to slot first : ℕ) → from ≤ slot → slot < to → to ≤ width → first < FFFF → ((e : Entry) → Mem e (entriesIn width nodes) → first ≤ e .place) → getD nodes (width + slot) 0 ≡ first → first ≡ smallest (entriesIn width nodes) from to
+-- the smallest place that there can be in a span is found in its slot
+pub smallest-first : (width : ℕ) (nodes : List ℕ) → 2 * width ≤ length nodes → (from to slot first : ℕ) → from ≤ slot → slot < to → to ≤ width → first < FFFF → ((e : Entry) → Mem e (entriesIn width nodes) → from ≤ e .slot → e .slot < to → first ≤ e .place) → getD nodes (width + slot) 0 ≡ first → first ≡ smallest (entriesIn width nodes) from to
 smallest-first width nodes room from to slot first starts below top some least holds =
     let at-most : smallest (entriesIn width nodes) from to ≤ first = rw (← holds, ← slot-cell width nodes room slot (omega arith)) (smallest-le-slot (slots width nodes) from to slot starts below) in
     let found = smallest-entry (entriesIn width nodes) from to (λ e. omega (arith, at-most)) in
-    omega (arith, at-most, least (found .entry) (found .held), found .least)
+    omega (arith, at-most, least (found .entry) (found .held) (found .starts) (found .below), found .least)

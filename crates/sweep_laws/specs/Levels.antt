@@ -1,54 +1,78 @@
--- The shape of the segment tree (document 01: W = 2 ^ k is the smallest power of two that is at least M and at least 1), as it is searched for level by level.
+-- The levels of a segment tree (document 01: W = 2 ^ k is the smallest power of two that is at least M and at least 1): of the row of all shelves, whose width is found by
+-- doubling, and of one shelf, told by the digits of its last slot.
 use Prim.Native.Nat.{ℕ, suc, _+_, _-_, _*_, _<_, _≤_, _^_}
-use mathlib.Core.Path.{_≡_, refl, sym, ap, _∙_}
-use native.Mathlib.Nat.{pow-suc, sub-zero}
-use native.Mathlib.Numerals.{add-one}
+use mathlib.Core.Path.{_≡_, refl, ap, _∙_}
+use mathlib.Core.Logic.{⊎-elim}
+use native.Mathlib.Nat.{pow-suc, eq-zero-or-pos}
 use native.Mathlib.Omega.{arith}
 use native.Mathlib.Decide.{decLt}
 use lib.Pow.{pow-mono, pow-pos}
-use Rattle.model.specs.Visits.{levels, levelsFrom}
-use Rattle.laws.specs.Levels.{below-power, levels-stop, levels-go}
+use lib.Count.{leadingZeros, leading-of-zero, leading-top}
+use Rattle.model.specs.Jobs.{jobLimit}
+use Rattle.model.specs.Visits.{levels}
+use Rattle.laws.specs.Levels.{levels-wide, levels-least}
+use Rattle.sweep_laws.specs.VisitCount.{Countable}
 
--- a tree that fits in memory has fewer than 63 levels
-pub levels-fit : (k width n : ℕ) → width ≡ 2 ^ k → 2 * width ≤ n → n < 2 ^ 64 → k < 63
-levels-fit k width n power room fits = elim (decLt k 63) [
+-- enough levels, and none fewer
+levels-are : (m k : ℕ) → m ≤ 2 ^ k → ((l : ℕ) → m ≤ 2 ^ l → k ≤ l) → k ≡ levels m
+levels-are m k wide least = omega (arith, least (levels m) (levels-wide m), levels-least m k wide)
+
+-- a lesser power of two has fewer levels
+fewer : (k l : ℕ) → 2 ^ k < 2 ^ l → k < l
+fewer k l h = elim (decLt k l) [
   | yes less ↦ less
-  | no more ↦ let h : 2 ^ 63 ≤ 2 ^ k = pow-mono {i = 63} {j = k} (omega arith) in absurd (omega arith)
+  | no more ↦ absurd (omega (arith, pow-mono {i = l} {j = k} (omega arith)))
 ]
 
+-- ---- the row
+
 -- the shape of a tree for m places
-pub record ShapeFor (m level kept width : ℕ) : Type 0 where
-  pub levels-are : level ≡ levels m
-  pub width-is : width ≡ 2 ^ level
+pub record ShapeFor (m kept width : ℕ) : Type 0 where
+  pub width-is : width ≡ 2 ^ levels m
   pub kept-some : 1 ≤ kept
   pub kept-within : kept ≤ width
 
--- ---- the search for them, level by level
-
-pub record LevelsTo (m level width : ℕ) : Type 0 where
-  pub within : level ≤ m
+-- on the way there: a power of two, no lesser one of which holds them
+pub record Doubled (m width : ℕ) : Type 0 where
+  pub level : ℕ
   pub width-is : width ≡ 2 ^ level
-  pub rest : levels m ≡ levelsFrom (m - level) level m
+  pub least : (l : ℕ) → m ≤ 2 ^ l → level ≤ l
 
-pub levels-begin : (m : ℕ) → LevelsTo m 0 1
-unfolding levels
-levels-begin m = record { within = omega arith; width-is = refl; rest = rw sub-zero refl }
+pub doubled-none : (m : ℕ) → Doubled m 1
+doubled-none m = record { level = 0; width-is = refl; least = λ l h. omega arith }
 
-module _ (m level width : ℕ) (l : LevelsTo m level width) where
+module _ (m width : ℕ) (d : Doubled m width) where
   pub width-some : 1 ≤ width
-  width-some = rw (l .width-is) (pow-pos level)
+  width-some = rw (d .width-is) (pow-pos (d .level))
 
-  pub levels-room : width < m → level < m
-  levels-room h = omega (arith, l .width-is, below-power level)
-
-  pub levels-step : width < m → LevelsTo m (level + 1) (width * 2)
-  levels-step h =
-      let fuel : m - level ≡ suc (m - suc level) = omega (arith, levels-room h) in
+  pub doubled-more : width < m → Doubled m (width * 2)
+  doubled-more h =
       record {
-        within = omega (arith, levels-room h);
-        width-is = rw (add-one, pow-suc 2 level) (ap (λ (w : ℕ). w * 2) (l .width-is));
-        rest = l .rest ∙ rw (fuel, levels-go (m - suc level) level m (rw (← (l .width-is)) h), add-one) refl;
+        level = suc (d .level);
+        width-is = rw (pow-suc 2 (d .level)) (ap (λ (w : ℕ). w * 2) (d .width-is));
+        least = λ l top. fewer (d .level) l (omega (arith, d .width-is));
       }
 
-  pub levels-found : m ≤ width → level ≡ levels m
-  levels-found h = sym (l .rest ∙ levels-stop (m - level) level m (rw (← (l .width-is)) h))
+  pub doubled-enough : m ≤ width → width ≡ 2 ^ levels m
+  doubled-enough h = d .width-is ∙ ap (λ (k : ℕ). 2 ^ k) (levels-are m (d .level) (rw (← (d .width-is)) h) (d .least))
+
+-- ---- a shelf
+
+-- it has as many levels as its last slot has digits
+pub levels-digits : (m : ℕ) → 1 ≤ m → m < 2 ^ 64 → 64 - leadingZeros 64 (m - 1) ≡ levels m
+levels-digits m some fits = ⊎-elim
+    (λ (one : m - 1 ≡ 0). rw (one, leading-of-zero 64) (levels-are m 0 (omega arith) (λ l h. omega arith)))
+    (λ (more : 0 < m - 1).
+    let t = leading-top 64 (m - 1) more (omega arith) in
+    let digits : 64 - leadingZeros 64 (m - 1) ≡ suc (t .0) = omega (arith, t .1) in
+    rw digits (levels-are m (suc (t .0)) (omega (arith, t .3)) (λ l h. fewer (t .0) l (omega (arith, t .2)))))
+    (eq-zero-or-pos (m - 1))
+
+-- the visits of a span of it, which is not empty, can be counted
+pub shelf-countable : (base size from to : ℕ) → size ≤ jobLimit → base ≤ from → from < to → to ≤ base + size → Countable (levels size) (from - base) (to - base)
+shelf-countable base size from to few begins some ends =
+    record {
+      few = omega (arith, levels-least size 12 few);
+      some = omega arith;
+      inside = omega (arith, levels-wide size);
+    }

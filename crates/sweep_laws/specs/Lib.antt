@@ -1,6 +1,7 @@
 -- Laws of the segment tree and of the sweep over a schedule.
 pub mod SegmentTree
 pub mod EntryLaws
+pub mod Shelves
 pub mod Nodes
 pub mod VisitCount
 pub mod VisitBound
@@ -15,6 +16,7 @@ pub mod Reaching
 pub mod Choice
 pub mod MadeLaws
 pub mod Asking
+pub mod Approach
 pub mod Steps
 pub mod Sweep
 pub mod Room

@@ -1,5 +1,5 @@
 -- Reaching one place more: it is at or behind the sweep, free, and not in the segment tree yet, and it comes to wait there.
-use Prim.Native.Nat.{ℕ, zero, suc, _+_, _*_, _<_, _≤_}
+use Prim.Native.Nat.{ℕ, zero, suc, _+_, _*_, _<_, _≤_, max}
 use mathlib.Core.Path.{_≡_, refl, sym, ap, _∙_}
 use mathlib.Core.Logic.{_⊎_, inl, inr, ⊎-elim}
 use mathlib.Core.Bool.{true, false}
@@ -14,7 +14,7 @@ use Rattle.schedule.specs.Schedule.{Schedule, slotAt, dueAt}
 use Rattle.schedule.specs.InWork.{slotPart, fromPart, toPart, reachedPart, duePart, treePart}
 use Rattle.sweep_laws.specs.SegmentTree.{entriesIn, insertEntry, Insertable}
 use Rattle.sweep_laws.specs.WorkCells.{FrontKept, front-refl, front-both, treeIn, TreeChanged}
-use Rattle.sweep_laws.specs.Sweeping.{freeAt, Open, Cells, Sweeping, PlaceInsertable, ReachedAt}
+use Rattle.sweep_laws.specs.Sweeping.{freeAt, OnShelves, Open, Cells, Sweeping, UpTo, PlaceInsertable, ReachedAt}
 use Rattle.sweep_laws.specs.WaitingLaws.{waiting-as, waiting-vacant, waiting-insert}
 
 -- ---- cells whose front is kept
@@ -34,6 +34,21 @@ module _ (n : ℕ) (old new : List ℕ) (f : FrontKept (treePart * n) old new) w
         from-cell = λ p l h free. f .kept (fromPart * n + p) (omega arith) ∙ c .from-cell p l h (sym (free-kept p h) ∙ free);
         to-cell = λ p l h free. f .kept (toPart * n + p) (omega arith) ∙ c .to-cell p l h (sym (free-kept p h) ∙ free);
       }
+
+-- the running order is kept, and with it the shelf of each place
+pub shelves-kept : (s : Schedule) (n : ℕ) (starts gaps old new : List ℕ) → FrontKept n old new → OnShelves s n starts gaps old → OnShelves s n starts gaps new
+shelves-kept s n starts gaps old new f o =
+    record {
+      shelved =
+          record {
+            starts-length = o .shelved .starts-length;
+            window-known = λ p h. rw (f .kept p h) (o .shelved .window-known p h);
+            shelf-rises = λ p h. rw (f .kept p h) (o .shelved .shelf-rises p h);
+          };
+      base-at = λ p h. rw (f .kept p h) (o .base-at p h);
+      size-at = λ p h. rw (f .kept p h) (o .size-at p h);
+      near = o .near;
+    }
 
 -- ---- among the first of a list
 
@@ -122,28 +137,39 @@ module _ (s : Schedule) (n kept width i r : ℕ) (work : List ℕ) (w : Sweeping
               (waiting-insert s n kept width (w .setting) (Open s n i r work) work work′ q reached-known (w .waiting) c′);
         })
 
+    -- none comes after the last of both
+    up-to-reached : (last last′ : ℕ) → last′ ≡ max last p → UpTo s n r last → UpTo s n (r + 1) last′
+    up-to-reached last last′ e u =
+        record {
+          inside = omega (arith, u .inside, place-known);
+          none-later = λ x m. ⊎-elim
+              (λ (o : Mem x (take r (s .reached))). omega (arith, u .none-later x o))
+              (λ (same : x ≡ q). omega (arith, place-is))
+              (more-front x (rw add-one at m));
+        }
+
     pub place-ready : PlaceInsertable n kept width p work
     place-ready = record { inside = place-known; room = omega (arith, w .cells .room); insertable = place-insertable }
 
 -- ---- reaching all that is due
 
--- `at` of the places that can be found are reached, on the way from `next` to `due`
-pub record ReachingTo (n kept width next due : ℕ) (old : List ℕ) (at : ℕ) (work : List ℕ) : Type 0 where
+-- `at` of the places that can be found are reached, up to place last′, on the way from `next` to `due`
+pub record ReachingTo (n kept width next last due : ℕ) (old : List ℕ) (at last′ : ℕ) (work : List ℕ) : Type 0 where
   pub front : FrontKept (treePart * n) old work
   pub within : at ≤ due
-  pub reaching : (s : Schedule) (i : ℕ) → i < n → due ≡ dueAt s i → Sweeping s n kept width i next old → Sweeping s n kept width i at work
+  pub reaching : (s : Schedule) (i : ℕ) → i < n → due ≡ dueAt s i → Sweeping s n kept width i next old → UpTo s n next last → Sweeping s n kept width i at work × UpTo s n at last′
 
-module _ (s : Schedule) (n kept width i next due : ℕ) (old : List ℕ) (known : i < n) (w : Sweeping s n kept width i next old) (due-is : due ≡ getD old (duePart * n + i) 0) where
+module _ (s : Schedule) (n kept width i next last due : ℕ) (old : List ℕ) (known : i < n) (w : Sweeping s n kept width i next old) (u : UpTo s n next last) (due-is : due ≡ getD old (duePart * n + i) 0) where
   pub due-at : due ≡ dueAt s i
   due-at = due-is ∙ w .cells .due-cell i (omega arith) known
 
-  pub reaching-begins : ReachingTo n kept width next due old next old
-  reaching-begins = record { front = front-refl (treePart * n) old; within = omega (arith, due-at, w .ahead i (omega arith) known); reaching = λ s i h e w. w }
+  pub reaching-begins : ReachingTo n kept width next last due old next last old
+  reaching-begins = record { front = front-refl (treePart * n) old; within = omega (arith, due-at, w .ahead i (omega arith) known); reaching = λ s i h e w u. (w, u) }
 
   -- the sweep, with `at` reached
-  module _ (at : ℕ) (work : List ℕ) (r : ReachingTo n kept width next due old at work) where
+  module _ (at last′ : ℕ) (work : List ℕ) (r : ReachingTo n kept width next last due old at last′ work) where
     pub now-sweeping : Sweeping s n kept width i at work
-    now-sweeping = r .reaching s i known due-at w
+    now-sweeping = r .reaching s i known due-at w u .0
 
     module _ (more : at < due) where
       soon : at < dueAt s i
@@ -155,19 +181,24 @@ module _ (s : Schedule) (n kept width i next due : ℕ) (old : List ℕ) (known 
       pub reaching-ready : (p : ℕ) → p ≡ getD work (reachedPart * n + at) 0 → PlaceInsertable n kept width p work
       reaching-ready p p-is = place-ready s n kept width i at work now-sweeping known soon p p-is
 
-      pub reaching-further : (p : ℕ) (work′ : List ℕ) → p ≡ getD work (reachedPart * n + at) 0 → TreeChanged n kept width (insertEntry (getD work (slotPart * n + p) 0) p (entriesIn width (treeIn n work))) work work′ → ReachingTo n kept width next due old (at + 1) work′
-      reaching-further p work′ p-is c =
+      pub reaching-further : (p last″ : ℕ) (work′ : List ℕ) → last″ ≡ max last′ p → p ≡ getD work (reachedPart * n + at) 0 → TreeChanged n kept width (insertEntry (getD work (slotPart * n + p) 0) p (entriesIn width (treeIn n work))) work work′ → ReachingTo n kept width next last due old (at + 1) last″ work′
+      reaching-further p last″ work′ last-is p-is c =
           record {
             front = front-both (treePart * n) old work work′ (r .front) (c .front);
             within = omega arith;
-            reaching = λ s i h e w. place-reached s n kept width i at work (r .reaching s i h e w) h (omega arith) p p-is work′ c;
+            reaching = λ s i h e w u.
+                let b = r .reaching s i h e w u in
+                (place-reached s n kept width i at work (b .0) h (omega arith) p p-is work′ c, up-to-reached s n kept width i at work (b .0) h (omega arith) p p-is last′ last″ last-is (b .1));
           }
 
     -- all are reached
-    pub reaching-done : due ≤ at → ReachedAt n kept width i next old due work
+    pub reaching-done : due ≤ at → ReachedAt n kept width i next last old due last′ work
     reaching-done h =
         let all : at ≡ due = omega (arith, r .within) in
         record {
           front = r .front;
-          reached = λ s k w. let e : due ≡ dueAt s i = due-is ∙ w .cells .due-cell i (omega arith) k in (e, rw all at (r .reaching s i k e w));
+          reached = λ s k w u.
+              let e : due ≡ dueAt s i = due-is ∙ w .cells .due-cell i (omega arith) k in
+              let b = r .reaching s i k e w u in
+              (e, rw all at (b .0), rw all at (b .1));
         }

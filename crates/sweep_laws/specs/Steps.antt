@@ -14,17 +14,22 @@ use lib.Seq.{getD-set-same, getD-set-other}
 use borrow.Author.Tests.{eq-eqb, ne-eqb, le-ltb}
 use Rattle.model.specs.Lists.{find, without}
 use Rattle.model.specs.Tree.{FFFF}
+use Rattle.model.specs.Jobs.{jobLimit}
 use Rattle.model.specs.Greedy.{Pass, pair, single, greedy}
 use Rattle.model.specs.Planning.{pairCount}
 use Rattle.matching.specs.Passes.{greedy-with, greedy-alone}
-use Rattle.schedule.specs.Schedule.{Schedule, toAt, dueAt, fits, visitsAt, visitsOf}
+use Rattle.schedule.specs.Schedule.{Schedule, places, toAt, dueAt, baseAt, sizeAt, fits, visitsAt, visitsOf, Near}
 use Rattle.schedule.specs.InWork.{slotPart, fromPart, toPart, reachedPart, duePart, matePart, openerPart, treePart, passOf}
 use Rattle.sweep_laws.specs.WorkCells.{FrontKept, front-both, front-less, front-set, treeIn, tree-set}
-use Rattle.sweep_laws.specs.Sweeping.{freeAt, remaining, Open, Sweeping, Made, Underway, Asking, paired, Chosen, ReachedAt}
+use Rattle.sweep_laws.specs.Sweeping.{freeAt, remaining, ShelfAt, OnShelves, Open, Sweeping, UpTo, Made, Underway, Steppable, Asking, ShelfKnown, paired, Chosen, ReachedAt, SteppedFrom}
 use Rattle.sweep_laws.specs.WaitingLaws.{waiting-as}
-use Rattle.sweep_laws.specs.Reaching.{free-kept, take-place}
+use Rattle.sweep_laws.specs.Reaching.{free-kept, shelves-kept, take-place}
 use Rattle.sweep_laws.specs.Asking.{asks-free, free-alone, mate-of-one, paired-other, free-paired}
 use Rattle.sweep_laws.specs.MadeLaws.{remaining-free, remaining-taken, remaining-same, remaining-without, made-same, made-more}
+
+-- a place has a gap, which leads to a place
+pub near-place : (s : Schedule) (n : ℕ) (gaps : List ℕ) → places s ≡ n → Near s gaps → (p : ℕ) → p < n → (p < length gaps) × (p + getD gaps p 0 < n)
+near-place s n gaps e g p h = (rw (g .gaps-length, e) h, rw (← e) (g .inside p (rw e h)))
 
 -- nothing is found where nothing passes
 find-never : (p : ℕ → Bool) (l : List ℕ) → ((x : ℕ) → p x ≡ false) → find p l ≡ none
@@ -131,10 +136,10 @@ sweeping-past s n kept width i next work next-is idle w =
 
 -- ---- a step, once what is due is reached
 
-module _ (s : Schedule) (n level kept width i next passes pairs visits : ℕ) (work : List ℕ) (u : Underway s n level kept width i next passes pairs visits work) (known : i < n)
-    (due : ℕ) (work₁ : List ℕ) (r : ReachedAt n kept width i next work due work₁) where
-  abbrev reached : (due ≡ dueAt s i) × Sweeping s n kept width i due work₁
-  reached = r .reached s known (u .sweeping)
+module _ (s : Schedule) (n kept width i next last passes pairs visits : ℕ) (work : List ℕ) (u : Underway s n kept width i next last passes pairs visits work) (known : i < n)
+    (due last₁ : ℕ) (work₁ : List ℕ) (r : ReachedAt n kept width i next last work due last₁ work₁) where
+  abbrev reached : (due ≡ dueAt s i) × Sweeping s n kept width i due work₁ × UpTo s n due last₁
+  reached = r .reached s known (u .sweeping) (u .up-to)
 
   abbrev w : Sweeping s n kept width i due work₁
   w = reached .1
@@ -142,7 +147,7 @@ module _ (s : Schedule) (n level kept width i next passes pairs visits : ℕ) (w
   room : treePart * n ≤ length work₁
   room = omega (arith, w .cells .room)
 
-  pub early : passes ≤ i
+  early : passes ≤ i
   early = u .made .few-passes
 
   m : Made s n i work₁ passes pairs visits
@@ -164,24 +169,24 @@ module _ (s : Schedule) (n level kept width i next passes pairs visits : ℕ) (w
       quiet-cell = rw (← to-is) quiet
 
       -- the running order stays
-      pub quiet-order : (FrontKept n work work₁) × FrontKept n work (opened work₁)
+      quiet-order : (FrontKept n work work₁) × FrontKept n work (opened work₁)
       quiet-order =
           let less : FrontKept n work work₁ = front-less n (treePart * n) work work₁ (omega arith) (r .front) in
           (less, front-both n work work₁ (opened work₁) less (front-set n work₁ (openerPart * n + passes) i (omega arith)))
 
       -- it is taken
-      pub step-taken : (mate ≡ FFFF → ⊥) → Underway s n level kept width (i + 1) due passes pairs visits work₁
+      step-taken : (mate ≡ FFFF → ⊥) → Underway s n kept width (i + 1) due last₁ passes pairs visits work₁
       step-taken other =
           let taken : freeAt n work₁ i ≡ false = unfold freeAt in rw (le-ltb 0 (getD work₁ (toPart * n + i) 0) quiet-cell, ne-eqb (getD work₁ (matePart * n + i) 0) FFFF (λ e. other (mate-is ∙ e))) refl in
           rw add-one
           (record {
             sweeping = sweeping-past s n kept width i due work₁ (reached .0) (λ o. true≢false (sym (o .1) ∙ taken)) w;
+            up-to = reached .2;
             made = made-same s n i work₁ passes pairs visits m work₁ (λ k h. refl) (λ p h. refl) (suc i) (omega arith) (sym (remaining-taken n work₁ i known taken));
-            levels-are = u .levels-are;
           })
 
       -- it runs alone
-      pub step-alone : mate ≡ FFFF → Underway s n level kept width (i + 1) due (passes + 1) pairs visits (opened work₁)
+      step-alone : mate ≡ FFFF → Underway s n kept width (i + 1) due last₁ (passes + 1) pairs visits (opened work₁)
       step-alone e =
           let free : freeAt n work₁ i ≡ true = unfold freeAt in rw (le-ltb 0 (getD work₁ (toPart * n + i) 0) quiet-cell, eq-eqb (getD work₁ (matePart * n + i) 0) FFFF (sym mate-is ∙ e)) refl in
           let quiet-at : toAt s i ≡ 0 = omega (arith, w .cells .to-cell i (omega arith) known free, quiet-cell) in
@@ -198,16 +203,27 @@ module _ (s : Schedule) (n level kept width i next passes pairs visits : ℕ) (w
           turn (pairs-alone i) (omega arith) (sym (visits-none s i quiet-at) ∙ visits-alone s i) (omega arith) in
           record {
             sweeping = rw add-one (sweeping-opener s n kept width i due passes i work₁ known early (sweeping-past s n kept width i due work₁ (reached .0) unwaiting w));
+            up-to = reached .2;
             made = rw (add-zero pairs, add-zero visits) at made;
-            levels-are = u .levels-are;
           }
 
     -- ---- it asks
 
     module _ (some : 0 < to) where
-      pub step-asking : Asking s n level kept width i due to work₁
-      step-asking =
-          record { sweeping = w; inside = known; next-is = reached .0; to-is = to-is; asks = some; levels-are = u .levels-are }
+      step-asking : (base size first : ℕ) (gaps : List ℕ) → base ≡ baseAt s i → size ≡ sizeAt s i → Near s gaps → first ≡ i + getD gaps i 0 → Asking s n kept width base size i first last₁ due to work₁
+      step-asking base size first gaps base-is size-is g first-is =
+          record {
+            sweeping = w;
+            inside = known;
+            base-is = base-is;
+            size-is = size-is;
+            first-inside = rw first-is (near-place s n gaps (w .setting .places-are) g i known .1);
+            none-before = λ q l h starts ends. rw first-is (g .first i q l (rw (w .setting .places-are) h) starts ends);
+            up-to = reached .2;
+            next-is = reached .0;
+            to-is = to-is;
+            asks = some;
+          }
 
       free-here : freeAt n work₁ i ≡ true
       free-here = asks-free n work₁ i (rw (← to-is) some)
@@ -216,28 +232,28 @@ module _ (s : Schedule) (n level kept width i next passes pairs visits : ℕ) (w
         next-sweeping : Sweeping s n kept width (i + 1) due (opened work₂)
         next-sweeping = rw add-one (sweeping-opener s n kept width i due passes i work₂ known early (c .sweeping))
 
-        pub opener-room : openerPart * n + passes < length work₂
+        opener-room : openerPart * n + passes < length work₂
         opener-room = omega (arith, early, c .sweeping .cells .room)
 
         -- one pass more, where the passes made before place i stand still
-        step-made : ((k : ℕ) → k < passes → getD work₂ (openerPart * n + k) 0 ≡ getD work₁ (openerPart * n + k) 0) → ((p : ℕ) → p < i → getD work₂ (matePart * n + p) 0 ≡ getD work₁ (matePart * n + p) 0) → (p : Pass) (a : ℕ) → passOf n (opened work₂) i ≡ p → greedy (fits s) (remaining n work₁ i) ≡ p ∷ greedy (fits s) (remaining n (opened work₂) (suc i)) → a ≡ pairCount p → a ≤ 1 → v ≡ visitsOf s p → Underway s n level kept width (i + 1) due (passes + 1) (pairs + a) (visits + v) (opened work₂)
+        step-made : ((k : ℕ) → k < passes → getD work₂ (openerPart * n + k) 0 ≡ getD work₁ (openerPart * n + k) 0) → ((p : ℕ) → p < i → getD work₂ (matePart * n + p) 0 ≡ getD work₁ (matePart * n + p) 0) → (p : Pass) (a : ℕ) → passOf n (opened work₂) i ≡ p → greedy (fits s) (remaining n work₁ i) ≡ p ∷ greedy (fits s) (remaining n (opened work₂) (suc i)) → a ≡ pairCount p → a ≤ 1 → v ≡ visitsOf s p → Underway s n kept width (i + 1) due last₁ (passes + 1) (pairs + a) (visits + v) (opened work₂)
         step-made openers mates p a is turn a-is a-few v-is =
             record {
               sweeping = next-sweeping;
+              up-to = reached .2;
               made = made-more s n i work₁ passes pairs visits m (opened work₂)
                   (λ k h. getD-set-other work₂ (openerPart * n + passes) (openerPart * n + k) i 0 (λ e. omega arith) ∙ openers k h)
                   (λ y h. getD-set-other work₂ (openerPart * n + passes) (matePart * n + y) i 0 (λ e. omega arith) ∙ mates y h)
                   p a v
                   (getD-set-same work₂ (openerPart * n + passes) i 0 opener-room)
                   is turn a-is a-few v-is (c .few-visits);
-              levels-are = u .levels-are;
             }
 
         mate-opened : getD (opened work₂) (matePart * n + i) 0 ≡ getD work₂ (matePart * n + i) 0
         mate-opened = getD-set-other work₂ (openerPart * n + passes) (matePart * n + i) i 0 (λ e. omega arith)
 
         -- it finds none
-        pub step-unmatched : q ≡ FFFF → Underway s n level kept width (i + 1) due (passes + 1) pairs (visits + v) (opened work₂)
+        step-unmatched : q ≡ FFFF → Underway s n kept width (i + 1) due last₁ (passes + 1) pairs (visits + v) (opened work₂)
         step-unmatched e =
             let o = c .none-found e in
             let keeps : (y : ℕ) → y < treePart * n → y ≢ matePart * n + i → getD work₂ y 0 ≡ getD work₁ y 0 = λ y h other. o .front .kept y h ∙ getD-set-other work₁ (matePart * n + i) y FFFF 0 other in
@@ -254,7 +270,7 @@ module _ (s : Schedule) (n level kept width i next passes pairs visits : ℕ) (w
             (pairs-alone i) (omega arith) (c .visits-are ∙ visits-alone s i))
 
         -- it finds a mate
-        pub step-matched : (q ≡ FFFF → ⊥) → Underway s n level kept width (i + 1) due (passes + 1) (pairs + 1) (visits + v) (opened work₂)
+        step-matched : (q ≡ FFFF → ⊥) → Underway s n kept width (i + 1) due last₁ (passes + 1) (pairs + 1) (visits + v) (opened work₂)
         step-matched other =
             let o = c .one-found other in
             let inside = o .inside in
@@ -273,7 +289,7 @@ module _ (s : Schedule) (n level kept width i next passes pairs visits : ℕ) (w
             (pairs-two i q) (omega arith) (c .visits-are ∙ visits-two s i q)
 
         -- the running order stays
-        pub step-front : FrontKept n work (opened work₂)
+        step-front : FrontKept n work (opened work₂)
         step-front =
             let less : FrontKept n work work₁ = front-less n (treePart * n) work work₁ (omega arith) (r .front) in
             let chosen : FrontKept n work₁ work₂ = elim (ℕ-discrete q FFFF) [
@@ -286,3 +302,69 @@ module _ (s : Schedule) (n level kept width i next passes pairs visits : ℕ) (w
             paired-order = front-both n work₁ (set (set work₁ (matePart * n + i) q) (matePart * n + q) i) (paired n i q work₁)
                 (front-both n work₁ (set work₁ (matePart * n + i) q) (set (set work₁ (matePart * n + i) q) (matePart * n + q) i) (front-set n work₁ (matePart * n + i) q (omega arith)) (front-set n (set work₁ (matePart * n + i) q) (matePart * n + q) i (omega arith)))
                 (front-set n (set (set work₁ (matePart * n + i) q) (matePart * n + q) i) (toPart * n + q) 0 (omega arith))
+
+-- ---- the whole step, as the code takes it
+
+module _ (n : ℕ) (starts gaps : List ℕ) (kept width i next last passes pairs visits : ℕ) (work : List ℕ) (p : Steppable n starts gaps kept width i next last passes pairs visits work)
+    (due last₁ : ℕ) (work₁ : List ℕ) (r : ReachedAt n kept width i next last work due last₁ work₁) (to : ℕ) (to-is : to ≡ getD work₁ (toPart * n + i) 0) where
+  module _ (quiet : to ≤ 0) (mate : ℕ) (mate-is : mate ≡ getD work₁ (matePart * n + i) 0) where
+    pub stepped-taken : (mate ≡ FFFF → ⊥) → SteppedFrom n starts gaps kept width i next last passes pairs visits work due last₁ passes pairs visits work₁
+    stepped-taken other =
+        record {
+          order = quiet-order (p .0) n kept width i next last passes pairs visits work (p .3) (p .1) due last₁ work₁ r to to-is quiet mate mate-is .0;
+          stepped = λ s o u. step-taken s n kept width i next last passes pairs visits work u (p .1) due last₁ work₁ r to to-is quiet mate mate-is other;
+        }
+
+    pub stepped-alone : mate ≡ FFFF → SteppedFrom n starts gaps kept width i next last passes pairs visits work due last₁ (passes + 1) pairs visits (set work₁ (openerPart * n + passes) i)
+    stepped-alone e =
+        record {
+          order = quiet-order (p .0) n kept width i next last passes pairs visits work (p .3) (p .1) due last₁ work₁ r to to-is quiet mate mate-is .1;
+          stepped = λ s o u. step-alone s n kept width i next last passes pairs visits work u (p .1) due last₁ work₁ r to to-is quiet mate mate-is e;
+        }
+
+  -- the shelves stay while places are reached
+  shelves : (s : Schedule) → OnShelves s n starts gaps work → OnShelves s n starts gaps work₁
+  shelves s o = shelves-kept s n starts gaps work work₁ (front-less n (treePart * n) work work₁ (omega arith) (r .front)) o
+
+  module _ (some : 0 < to) where
+    pub shelf-known : ShelfKnown starts i work₁
+    shelf-known = (n, p .1, omega (arith, r .front .same, p .3 .sweeping .cells .room), shelves (p .0) (p .2) .shelved)
+
+    module _ (base size : ℕ) (h : ShelfAt starts work₁ i base size) (first : ℕ) (first-is : first ≡ i + getD gaps i 0) where
+      asking : (s : Schedule) → OnShelves s n starts gaps work → Underway s n kept width i next last passes pairs visits work → Asking s n kept width base size i first last₁ due to work₁
+      asking s o u =
+          step-asking s n kept width i next last passes pairs visits work u (p .1) due last₁ work₁ r to to-is some base size first gaps
+          (h .base-is ∙ shelves s o .base-at i (p .1))
+          (h .size-is ∙ shelves s o .size-at i (p .1))
+          (o .near)
+          first-is
+
+      pub now-asking : (s : Schedule) × (next : ℕ) × Asking s n kept width base size i first last₁ next to work₁
+      now-asking = (p .0, due, asking (p .0) (p .2) (p .3))
+
+      module _ (q v : ℕ) (work₂ : List ℕ) (m : (s : Schedule) (next : ℕ) → Asking s n kept width base size i first last₁ next to work₁ → Chosen s n kept width i next work₁ q v work₂) where
+        chosen : (s : Schedule) → OnShelves s n starts gaps work → Underway s n kept width i next last passes pairs visits work → Chosen s n kept width i due work₁ q v work₂
+        chosen s o u = m s due (asking s o u)
+
+        pub opener-known : openerPart * n + passes < length work₂
+        opener-known = opener-room (p .0) n kept width i next last passes pairs visits work (p .3) (p .1) due last₁ work₁ r to to-is some q v work₂ (chosen (p .0) (p .2) (p .3))
+
+        pub few-visits : visits + v ≤ 49 * jobLimit
+        few-visits = omega (arith, p .1, p .3 .made .few-visits, p .3 .sweeping .setting .few, chosen (p .0) (p .2) (p .3) .few-visits)
+
+        order-kept : FrontKept n work (set work₂ (openerPart * n + passes) i)
+        order-kept = step-front (p .0) n kept width i next last passes pairs visits work (p .3) (p .1) due last₁ work₁ r to to-is some q v work₂ (chosen (p .0) (p .2) (p .3))
+
+        pub stepped-unmatched : q ≡ FFFF → SteppedFrom n starts gaps kept width i next last passes pairs visits work due last₁ (passes + 1) pairs (visits + v) (set work₂ (openerPart * n + passes) i)
+        stepped-unmatched e =
+            record {
+              order = order-kept;
+              stepped = λ s o u. step-unmatched s n kept width i next last passes pairs visits work u (p .1) due last₁ work₁ r to to-is some q v work₂ (chosen s o u) e;
+            }
+
+        pub stepped-matched : (q ≡ FFFF → ⊥) → SteppedFrom n starts gaps kept width i next last passes pairs visits work due last₁ (passes + 1) (pairs + 1) (visits + v) (set work₂ (openerPart * n + passes) i)
+        stepped-matched other =
+            record {
+              order = order-kept;
+              stepped = λ s o u. step-matched s n kept width i next last passes pairs visits work u (p .1) due last₁ work₁ r to to-is some q v work₂ (chosen s o u) other;
+            }

@@ -1,5 +1,5 @@
 -- A sweep from its first place to its last: it begins with the schedule that the work cells hold, and ends with the passes of the greedy rule.
-use Prim.Native.Nat.{ℕ, _+_, _-_, _*_, _<_, _≤_, _^_}
+use Prim.Native.Nat.{ℕ, _+_, _-_, _*_, _<_, _≤_}
 use mathlib.Core.Path.{_≡_, refl, sym, ap, _∙_}
 use mathlib.Core.Bool.{true, true≢false, or-true}
 use mathlib.Core.List.{List, [], List·Memᴰ·not-nil as not-nil}
@@ -14,17 +14,17 @@ use borrow.Author.Tests.{eq-eqb}
 use Rattle.model.specs.Lists.{numbersFrom, numbers, lastD, total}
 use Rattle.model.specs.Tree.{FFFF}
 use Rattle.model.specs.Greedy.{Pass}
-use Rattle.model.specs.Visits.{levels}
 use Rattle.model.specs.Planning.{pairCount}
 use Rattle.laws.specs.Lists.{mem-all, select-all}
-use Rattle.laws.specs.Numbers.{range-mem, numbers-length}
+use Rattle.laws.specs.Numbers.{range-mem, numbers-length, numbers-at}
 use Rattle.schedule.specs.Schedule.{Schedule, places, slotAt, fromAt, toAt, dueAt, passesByPlace, totalVisits, visitsOf}
-use Rattle.schedule.specs.InWork.{slotPart, fromPart, toPart, reachedPart, duePart, matePart, treePart, part, scheduleIn, passAt, Swept}
+use Rattle.schedule.specs.InWork.{slotPart, fromPart, toPart, reachedPart, duePart, matePart, treePart, part, baseIn, sizeIn, scheduleIn, passAt, Swept}
 use Rattle.sweep_laws.specs.SegmentTree.{Clearable, Cleared}
 use Rattle.sweep_laws.specs.Levels.{ShapeFor}
 use Rattle.sweep_laws.specs.WorkCells.{FrontKept, front-refl, front-both, front-less, mid-tail, treeIn, TreeChanged, tree-back}
-use Rattle.sweep_laws.specs.Sweeping.{Sweepable, freeAt, remaining, Open, Setting, Made, Underway, SteppedFrom}
+use Rattle.sweep_laws.specs.Sweeping.{Sweepable, freeAt, remaining, OnShelves, Open, Setting, Made, Underway, Steppable, SteppedFrom}
 use Rattle.sweep_laws.specs.WaitingLaws.{waiting-none}
+use Rattle.sweep_laws.specs.Reaching.{shelves-kept}
 use Rattle.sweep_laws.specs.Asking.{asks-free}
 use Rattle.sweep_laws.specs.MadeLaws.{made-all}
 
@@ -43,19 +43,16 @@ visits-total s ps e = ap (total (visitsOf s)) (sym e)
 
 -- ---- the first place
 
-module _ (n level kept width : ℕ) (work work₁ : List ℕ) (b : Sweepable n work) (shape : ShapeFor n level kept width) (c : TreeChanged n kept width [] work work₁) where
+module _ (n : ℕ) (starts gaps : List ℕ) (kept width : ℕ) (work work₁ : List ℕ) (b : Sweepable n starts gaps work) (shape : ShapeFor n kept width) (c : TreeChanged n kept width [] work work₁) where
   abbrev s : Schedule
-  s = scheduleIn n work
+  s = scheduleIn n starts work
 
   places-are : places s ≡ n
   unfolding scheduleIn
   places-are = length-take-le n (drop (slotPart * n) work) (rw (length-drop (slotPart * n) work) (omega (arith, b .room)))
 
-  power : width ≡ 2 ^ levels n
-  power = shape .width-is ∙ ap (λ (k : ℕ). 2 ^ k) (shape .levels-are)
-
-  setting : Setting s n kept width
-  setting = record { few = b .few; places-are = places-are; sound = b .sound; width-is = power }
+  setting : Setting s n width
+  setting = record { few = b .few; places-are = places-are; sound = b .sound; width-is = shape .width-is }
 
   few-reached : length (s .reached) ≤ n
   few-reached = omega (arith, places-are, b .sound .reached-length)
@@ -111,7 +108,13 @@ module _ (n level kept width : ℕ) (work work₁ : List ℕ) (b : Sweepable n w
         few-visits = omega arith;
       }
 
-  pub sweep-begins : Underway s n level kept width 0 0 0 0 0 work₁
+  -- the shelves are those of the schedule
+  pub shelves-begin : OnShelves s n starts gaps work₁
+  unfolding scheduleIn
+  shelves-begin = shelves-kept s n starts gaps work work₁ (front-less n (treePart * n) work work₁ (omega arith) (c .front))
+      (record { shelved = b .shelved; base-at = λ p h. sym (numbers-at (baseIn starts work) n p 0 h); size-at = λ p h. sym (numbers-at (sizeIn starts work) n p 0 h); near = b .near })
+
+  pub sweep-begins : Underway s n kept width 0 0 0 0 0 0 work₁
   sweep-begins =
       record {
         sweeping =
@@ -119,7 +122,7 @@ module _ (n level kept width : ℕ) (work work₁ : List ℕ) (b : Sweepable n w
               setting = setting;
               cells =
                   record {
-                    room = rw (c .front .same, power) (b .room);
+                    room = rw (c .front .same, shape .width-is) (b .room);
                     slot-cell = slot-cell;
                     reached-cell = reached-cell;
                     due-cell = λ p l h. due-cell p h;
@@ -132,50 +135,47 @@ module _ (n level kept width : ℕ) (work work₁ : List ℕ) (b : Sweepable n w
               ahead = λ p l h. omega arith;
               waiting = waiting-none s n kept width setting (Open s n 0 0 work₁) work work₁ (λ q h o. not-nil (o .2)) c;
             };
+        up-to = record { inside = omega arith; none-later = λ q m. absurd (not-nil m) };
         made = made;
-        levels-are = shape .levels-are;
       }
 
 -- ---- the last place
 
-pub sweep-ends : (n level kept width i next passes pairs visits : ℕ) (work new : List ℕ) → n ≤ length work → i ≡ n → Underway (scheduleIn n work) n level kept width i next passes pairs visits new → FrontKept n work new → Swept n work pairs visits new
-sweep-ends n level kept width i next passes pairs visits work new room e u f =
-    let m : Made (scheduleIn n work) n n new passes pairs visits = rw e at (u .made) in
-    let all : passesByPlace (scheduleIn n work) ≡ m .made = made-all (scheduleIn n work) n new passes pairs visits m in
-    let count : length (passesByPlace (scheduleIn n work)) ≡ passes = ap length (all ∙ sym (m .stands)) ∙ length-map (numbers passes) (passAt n new) ∙ numbers-length passes in
+pub sweep-ends : (n : ℕ) (starts : List ℕ) (kept width i next last passes pairs visits : ℕ) (work new : List ℕ) → n ≤ length work → i ≡ n → Underway (scheduleIn n starts work) n kept width i next last passes pairs visits new → FrontKept n work new → Swept n starts work pairs visits new
+sweep-ends n starts kept width i next last passes pairs visits work new room e u f =
+    let m : Made (scheduleIn n starts work) n n new passes pairs visits = rw e at (u .made) in
+    let all : passesByPlace (scheduleIn n starts work) ≡ m .made = made-all (scheduleIn n starts work) n new passes pairs visits m in
+    let count : length (passesByPlace (scheduleIn n starts work)) ≡ passes = ap length (all ∙ sym (m .stands)) ∙ length-map (numbers passes) (passAt n new) ∙ numbers-length passes in
     record {
       kept = f .same;
       order-kept = ext-getD 0 (take n new) (take n work) (length-take-le n new (rw (f .same) room) ∙ sym (length-take-le n work room))
           (λ y h. let inside : y < n = rw (length-take-le n new (rw (f .same) room)) at h in rw (getD-take n new y 0 inside, getD-take n work y 0 inside) (f .kept y inside));
       passes-are = rw count (m .stands ∙ sym all);
       pairs-are = m .pairs-are ∙ ap (total pairCount) (sym all);
-      visits-are = m .visits-are ∙ visits-total (scheduleIn n work) (m .made) all;
+      visits-are = m .visits-are ∙ visits-total (scheduleIn n starts work) (m .made) all;
     }
 
 -- ---- from the first place to the last
 
 -- the sweep has come from the cells `old`, with the tree cleared, to place i
-pub record SweptTo (n level kept width : ℕ) (old : List ℕ) (i next passes pairs visits : ℕ) (work : List ℕ) : Type 0 where
+pub record SweptTo (n : ℕ) (starts gaps : List ℕ) (kept width : ℕ) (old : List ℕ) (i next last passes pairs visits : ℕ) (work : List ℕ) : Type 0 where
   pub within : i ≤ n
   pub order : FrontKept n old work
-  pub underway : (s : Schedule) → Underway s n level kept width 0 0 0 0 0 old → Underway s n level kept width i next passes pairs visits work
+  pub underway : (s : Schedule) → OnShelves s n starts gaps old → Underway s n kept width 0 0 0 0 0 0 old → Underway s n kept width i next last passes pairs visits work
 
-pub swept-first : (n level kept width : ℕ) (old : List ℕ) → SweptTo n level kept width old 0 0 0 0 0 old
-swept-first n level kept width old = record { within = omega arith; order = front-refl n old; underway = λ s u. u }
+pub swept-first : (n : ℕ) (starts gaps : List ℕ) (kept width : ℕ) (old : List ℕ) → SweptTo n starts gaps kept width old 0 0 0 0 0 0 old
+swept-first n starts gaps kept width old = record { within = omega arith; order = front-refl n old; underway = λ s o u. u }
 
-pub swept-next : (n level kept width : ℕ) (old : List ℕ) (i next passes pairs visits : ℕ) (work : List ℕ) (next′ passes′ pairs′ visits′ : ℕ) (work′ : List ℕ) → i < n → SteppedFrom n level kept width i next passes pairs visits work next′ passes′ pairs′ visits′ work′ → SweptTo n level kept width old i next passes pairs visits work → SweptTo n level kept width old (i + 1) next′ passes′ pairs′ visits′ work′
-swept-next n level kept width old i next passes pairs visits work next′ passes′ pairs′ visits′ work′ h t w =
+pub swept-next : (n : ℕ) (starts gaps : List ℕ) (kept width : ℕ) (old : List ℕ) (i next last passes pairs visits : ℕ) (work : List ℕ) (next′ last′ passes′ pairs′ visits′ : ℕ) (work′ : List ℕ) → i < n → SteppedFrom n starts gaps kept width i next last passes pairs visits work next′ last′ passes′ pairs′ visits′ work′ → SweptTo n starts gaps kept width old i next last passes pairs visits work → SweptTo n starts gaps kept width old (i + 1) next′ last′ passes′ pairs′ visits′ work′
+swept-next n starts gaps kept width old i next last passes pairs visits work next′ last′ passes′ pairs′ visits′ work′ h t w =
     record {
       within = omega arith;
       order = front-both n old work work′ (w .order) (t .order);
-      underway = λ s u. t .stepped s (w .underway s u);
+      underway = λ s o u. t .stepped s (shelves-kept s n starts gaps old work (w .order) o) (w .underway s o u);
     }
 
 -- the tree is lent to be cleared
-module _ (n level kept width : ℕ) (work : List ℕ) (b : Sweepable n work) (shape : ShapeFor n level kept width) where
-  width-is : width ≡ 2 ^ levels n
-  width-is = shape .width-is ∙ ap (λ (k : ℕ). 2 ^ k) (shape .levels-are)
-
+module _ (n : ℕ) (starts gaps : List ℕ) (kept width : ℕ) (work : List ℕ) (b : Sweepable n starts gaps work) (shape : ShapeFor n kept width) where
   pub parts-room : treePart * n ≤ length work
   parts-room = omega (arith, b .room)
 
@@ -184,7 +184,7 @@ module _ (n level kept width : ℕ) (work : List ℕ) (b : Sweepable n work) (sh
       record {
         some = shape .kept-some;
         within = shape .kept-within;
-        room = rw (mid-tail (treePart * n) work, length-drop (treePart * n) work, width-is) (omega (arith, b .room));
+        room = rw (mid-tail (treePart * n) work, length-drop (treePart * n) work, shape .width-is) (omega (arith, b .room));
       }
 
   module _ (nodes : List ℕ) (same : length nodes ≡ length (take (length work - treePart * n) (treeIn n work))) (h : Cleared kept width (take (length work - treePart * n) (treeIn n work)) nodes) where
@@ -194,11 +194,17 @@ module _ (n level kept width : ℕ) (work : List ℕ) (b : Sweepable n work) (sh
     tree-cleared : TreeChanged n kept width [] work cleared
     tree-cleared = tree-back n kept width (λ (l : List ℕ). []) work nodes parts-room same h
 
-    pub swept-underway : (i next passes pairs visits : ℕ) (new : List ℕ) → SweptTo n level kept width cleared i next passes pairs visits new → Underway (scheduleIn n work) n level kept width i next passes pairs visits new
-    swept-underway i next passes pairs visits new w = w .underway (scheduleIn n work) (sweep-begins n level kept width work cleared b shape tree-cleared)
+    shelves-cleared : OnShelves (scheduleIn n starts work) n starts gaps cleared
+    shelves-cleared = shelves-begin n starts gaps kept width work cleared b shape tree-cleared
 
-    pub swept-all : (i next passes pairs visits : ℕ) (new : List ℕ) → n ≤ i → SweptTo n level kept width cleared i next passes pairs visits new → Swept n work pairs visits new
-    swept-all i next passes pairs visits new h w =
-        sweep-ends n level kept width i next passes pairs visits work new (omega (arith, b .room)) (omega (arith, w .within))
-        (swept-underway i next passes pairs visits new w)
-        (front-both n work cleared new (front-less n (treePart * n) work cleared (omega arith) (tree-cleared .front)) (w .order))
+    module _ (i next last passes pairs visits : ℕ) (new : List ℕ) (w : SweptTo n starts gaps kept width cleared i next last passes pairs visits new) where
+      swept-underway : Underway (scheduleIn n starts work) n kept width i next last passes pairs visits new
+      swept-underway = w .underway (scheduleIn n starts work) shelves-cleared (sweep-begins n starts gaps kept width work cleared b shape tree-cleared)
+
+      pub swept-steppable : i < n → Steppable n starts gaps kept width i next last passes pairs visits new
+      swept-steppable h = (scheduleIn n starts work, h, shelves-kept (scheduleIn n starts work) n starts gaps cleared new (w .order) shelves-cleared, swept-underway)
+
+      pub swept-all : n ≤ i → Swept n starts work pairs visits new
+      swept-all end =
+          sweep-ends n starts kept width i next last passes pairs visits work new (omega (arith, b .room)) (omega (arith, w .within)) swept-underway
+          (front-both n work cleared new (front-less n (treePart * n) work cleared (omega arith) (tree-cleared .front)) (w .order))

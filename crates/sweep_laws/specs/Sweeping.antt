@@ -1,6 +1,7 @@
 -- The sweep over a schedule, place by place: which places are free, which wait in the segment tree, and how many of the passes are made.
 use Prim.Native.Nat.{ℕ, suc, _+_, _-_, _*_, _<_, _≤_, _^_}
 use mathlib.Core.Path.{_≡_}
+use mathlib.Core.Logic.{_≢_}
 use mathlib.Core.Bool.{Bool, true, false, _||_}
 use mathlib.Core.Option.{none, some}
 use mathlib.Core.List.{List, _++_, map, List·Memᴰ as Mem}
@@ -12,24 +13,44 @@ use Rattle.model.specs.Jobs.{jobLimit}
 use Rattle.model.specs.Greedy.{Pass, greedy}
 use Rattle.model.specs.Visits.{levels}
 use Rattle.model.specs.Planning.{pairCount}
-use Rattle.schedule.specs.Schedule.{Schedule, places, slotAt, fromAt, toAt, dueAt, fits, passesByPlace, visitsAt, visitsOf, Sound}
-use Rattle.schedule.specs.InWork.{slotPart, fromPart, toPart, reachedPart, duePart, matePart, openerPart, treePart, scheduleIn, passAt}
-use Rattle.sweep_laws.specs.SegmentTree.{Entry, entriesIn, SegmentTree, Insertable, Searchable}
+use Rattle.schedule.specs.Schedule.{Schedule, places, slotAt, fromAt, toAt, dueAt, baseAt, sizeAt, fits, passesByPlace, visitsAt, visitsOf, Near, Sound}
+use Rattle.schedule.specs.InWork.{slotPart, fromPart, toPart, reachedPart, duePart, matePart, openerPart, treePart, baseIn, sizeIn, Shelved, scheduleIn, passAt}
+use Rattle.sweep_laws.specs.SegmentTree.{Entry, entriesIn, SegmentTree, Insertable, Searchable, Minimum}
 use Rattle.sweep_laws.specs.WorkCells.{FrontKept, treeIn}
 
--- what a sweep of n places asks of the work cells
-pub record Sweepable (n : ℕ) (work : List ℕ) : Type 0 where
+-- what a sweep of n places asks of the shelves, the gaps and the work cells
+pub record Sweepable (n : ℕ) (starts gaps work : List ℕ) : Type 0 where
   pub few : n ≤ jobLimit
   pub room : treePart * n + 2 * 2 ^ levels n ≤ length work
-  pub sound : Sound (scheduleIn n work)
+  pub shelved : Shelved n starts work
+  pub sound : Sound (scheduleIn n starts work)
+  pub near : Near (scheduleIn n starts work) gaps
 
--- a place that is not taken asks, or has no mate: taking it ends its span and leaves its mate
+-- a place that is not taken asks, or has no mate: taking it ends its span and writes its mate into its cell
 unfoldable pub freeAt : ℕ → List ℕ → ℕ → Bool
 freeAt n work p = ltb 0 (getD work (toPart * n + p) 0) || eqb (getD work (matePart * n + p) 0) FFFF
 
 -- the places from i on that are free
 unfoldable pub remaining : ℕ → List ℕ → ℕ → List ℕ
 remaining n work i = select (freeAt n work) (numbersFrom i (n - i))
+
+-- ---- the shelves
+
+-- the shelf of place p can be read
+abbrev pub ShelfKnown : List ℕ → ℕ → List ℕ → Type 0
+ShelfKnown starts p work = (n : ℕ) × (p < n) × (n ≤ length work) × Shelved n starts work
+
+-- it is this one
+pub record ShelfAt (starts work : List ℕ) (p base size : ℕ) : Type 0 where
+  pub base-is : base ≡ baseIn starts work p
+  pub size-is : size ≡ sizeIn starts work p
+
+-- every place has a shelf, that of the schedule, and a gap
+pub record OnShelves (s : Schedule) (n : ℕ) (starts gaps work : List ℕ) : Type 0 where
+  pub shelved : Shelved n starts work
+  pub base-at : (p : ℕ) → p < n → baseIn starts work p ≡ baseAt s p
+  pub size-at : (p : ℕ) → p < n → sizeIn starts work p ≡ sizeAt s p
+  pub near : Near s gaps
 
 -- ---- the tree
 
@@ -53,7 +74,7 @@ module _ (s : Schedule) (n : ℕ) where
 -- ---- the cells
 
 -- a schedule of n places, and the width of their tree
-pub record Setting (s : Schedule) (n kept width : ℕ) : Type 0 where
+pub record Setting (s : Schedule) (n width : ℕ) : Type 0 where
   pub few : n ≤ jobLimit
   pub places-are : places s ≡ n
   pub sound : Sound s
@@ -70,7 +91,7 @@ pub record Cells (s : Schedule) (n width i : ℕ) (work : List ℕ) : Type 0 whe
 
 -- the sweep at place i, `next` of the places that can be found being reached
 pub record Sweeping (s : Schedule) (n kept width i next : ℕ) (work : List ℕ) : Type 0 where
-  pub setting : Setting s n kept width
+  pub setting : Setting s n width
   pub cells : Cells s n width i work
   pub taken-reached : (q : ℕ) → i ≤ q → q < n → freeAt n work q ≡ false → Mem q (take next (s .reached))
   pub next-inside : next ≤ length (s .reached)
@@ -78,7 +99,12 @@ pub record Sweeping (s : Schedule) (n kept width i next : ℕ) (work : List ℕ)
   pub ahead : (p : ℕ) → i ≤ p → p < n → next ≤ dueAt s p
   pub waiting : Waiting s n kept width (Open s n i next work) (treeIn n work)
 
--- the passes made before place i stand in the cells, and the greedy rule makes the others of what remains
+-- no place after `last` is among the first `next` that are reached
+pub record UpTo (s : Schedule) (n next last : ℕ) : Type 0 where
+  pub inside : last ≤ n
+  pub none-later : (q : ℕ) → Mem q (take next (s .reached)) → q ≤ last
+
+-- the passes made before place i stand in the cells, and the greedy rule makes the others of what remains. A lookup visits at most 49 nodes, 4k + 1 with k = 12
 pub record Made (s : Schedule) (n i : ℕ) (work : List ℕ) (passes pairs visits : ℕ) : Type 0 where
   pub made : List Pass
   pub rest : passesByPlace s ≡ made ++ greedy (fits s) (remaining n work i)
@@ -93,19 +119,28 @@ pub record Made (s : Schedule) (n i : ℕ) (work : List ℕ) (passes pairs visit
 -- ---- what the steps promise one another
 
 -- the sweep before the turn of place i
-pub record Underway (s : Schedule) (n level kept width i next passes pairs visits : ℕ) (work : List ℕ) : Type 0 where
+pub record Underway (s : Schedule) (n kept width i next last passes pairs visits : ℕ) (work : List ℕ) : Type 0 where
   pub sweeping : Sweeping s n kept width i next work
+  pub up-to : UpTo s n next last
   pub made : Made s n i work passes pairs visits
-  pub levels-are : level ≡ levels n
 
--- place i is free and asks for a span that ends at `to`, with all that is due at its turn reached
-pub record Asking (s : Schedule) (n level kept width i next to : ℕ) (work : List ℕ) : Type 0 where
+-- place i is to have its turn
+abbrev pub Steppable : ℕ → List ℕ → List ℕ → ℕ → ℕ → ℕ → ℕ → ℕ → ℕ → ℕ → ℕ → List ℕ → Type 0
+Steppable n starts gaps kept width i next last passes pairs visits work =
+    (s : Schedule) × (i < n) × OnShelves s n starts gaps work × Underway s n kept width i next last passes pairs visits work
+
+-- place i is free and asks for a span of its shelf that ends at `to`, with all that is due at its turn reached, up to place `last`; no later place of its shelf comes before `first`
+pub record Asking (s : Schedule) (n kept width base size i first last next to : ℕ) (work : List ℕ) : Type 0 where
   pub sweeping : Sweeping s n kept width i next work
   pub inside : i < n
+  pub base-is : base ≡ baseAt s i
+  pub size-is : size ≡ sizeAt s i
+  pub first-inside : first < n
+  pub none-before : (q : ℕ) → i < q → q < n → baseAt s i ≤ slotAt s q → slotAt s q < baseAt s i + sizeAt s i → first ≤ q
+  pub up-to : UpTo s n next last
   pub next-is : next ≡ dueAt s i
   pub to-is : to ≡ getD work (toPart * n + i) 0
   pub asks : 0 < to
-  pub levels-are : level ≡ levels n
 
 -- the cells with place i and its mate q paired
 abbrev pub paired : ℕ → ℕ → ℕ → List ℕ → List ℕ
@@ -145,12 +180,25 @@ pub record PlaceRemovable (n kept width p : ℕ) (work : List ℕ) : Type 0 wher
   pub tree : SegmentTree kept width (treeIn n work)
   pub slot-inside : getD work (slotPart * n + p) 0 < width
 
--- a place whose mate is to be found: none that waits is at it or before it
-pub record MateSearchable (n level kept width p to : ℕ) (work : List ℕ) : Type 0 where
+-- a place whose mate is to be found: none that waits in the span comes before `first` or after `last`, and each waits in its own slot. The first may
+-- come after all places: then it comes after the last
+pub record MateSearchable (n kept width base size p first last to : ℕ) (work : List ℕ) : Type 0 where
   pub few : n ≤ jobLimit
   pub inside : p < n
+  pub first-bounded : first ≤ n + 1
+  pub last-inside : last ≤ n
   pub room : treePart * n ≤ length work
-  pub search : Searchable level kept width (treeIn n work) to (p + 1)
+  pub own-slot : (e : Entry) → Mem e (entriesIn width (treeIn n work)) → e .slot ≡ getD work (slotPart * n + e .place) 0
+  pub search : Searchable kept width (treeIn n work) base size (getD work (fromPart * n + p) 0) to first last
+
+-- place p does not wait in the slots from `from` up to `to`
+abbrev pub PassedBy : ℕ → ℕ → ℕ → ℕ → ℕ → List ℕ → Type 0
+PassedBy n width from to p work =
+    from ≤ getD work (slotPart * n + p) 0 → getD work (slotPart * n + p) 0 < to → getD work (treePart * n + width + getD work (slotPart * n + p) 0) 0 ≢ p
+
+-- the mate that is found
+abbrev pub MateFound : ℕ → ℕ → ℕ → ℕ → ℕ → ℕ → List ℕ → ℕ → ℕ → Type 0
+MateFound n width base size p to work q visits = Minimum width (treeIn n work) base size (getD work (fromPart * n + p) 0) to q visits
 
 -- two places that are to be paired
 pub record Pairable (n i q : ℕ) (work : List ℕ) : Type 0 where
@@ -159,11 +207,11 @@ pub record Pairable (n i q : ℕ) (work : List ℕ) : Type 0 where
   pub room : treePart * n ≤ length work
 
 -- what is due at place i is reached, `due` in all
-pub record ReachedAt (n kept width i next : ℕ) (old : List ℕ) (due : ℕ) (new : List ℕ) : Type 0 where
+pub record ReachedAt (n kept width i next last : ℕ) (old : List ℕ) (due last′ : ℕ) (new : List ℕ) : Type 0 where
   pub front : FrontKept (treePart * n) old new
-  pub reached : (s : Schedule) → i < n → Sweeping s n kept width i next old → (due ≡ dueAt s i) × Sweeping s n kept width i due new
+  pub reached : (s : Schedule) → i < n → Sweeping s n kept width i next old → UpTo s n next last → (due ≡ dueAt s i) × Sweeping s n kept width i due new × UpTo s n due last′
 
--- place i has had its turn
-pub record SteppedFrom (n level kept width i next passes pairs visits : ℕ) (old : List ℕ) (next′ passes′ pairs′ visits′ : ℕ) (new : List ℕ) : Type 0 where
+-- place i has had its turn; the jobs and windows by place stay
+pub record SteppedFrom (n : ℕ) (starts gaps : List ℕ) (kept width i next last passes pairs visits : ℕ) (old : List ℕ) (next′ last′ passes′ pairs′ visits′ : ℕ) (new : List ℕ) : Type 0 where
   pub order : FrontKept n old new
-  pub stepped : (s : Schedule) → Underway s n level kept width i next passes pairs visits old → Underway s n level kept width (i + 1) next′ passes′ pairs′ visits′ new
+  pub stepped : (s : Schedule) → OnShelves s n starts gaps old → Underway s n kept width i next last passes pairs visits old → Underway s n kept width (i + 1) next′ last′ passes′ pairs′ visits′ new

@@ -9,7 +9,7 @@ use Rattle.sweep_laws.specs.EntryLaws.{insert-mem, mem-inserted, mem-ins
 use Rattle.sweep_laws.specs.WorkCells.{treeIn, TreeChanged}
 use Rattle.sweep_laws.specs.Sweeping.{Stands, Waiting, Setting}
 
-module _ (s : Schedule) (n kept width : ℕ) (t : Setting s n kept width) where
+module _ (s : Schedule) (n kept width : ℕ) (t : Setting s n width) where
   slot-once : (p q : ℕ) → p < n → q < n → slotAt s p ≡ slotAt s q → p ≡ q
   slot-once p q a b e = t .sound .slot-once p q (rw (t .places-are) a) (rw (t .places-are) b) e
 

@@ -1,4 +1,4 @@
-// *Read a table* (document 01, "What each operation turns away"): from bytes to parents, tops, bottoms and solo marks.
+// *Read a table* (document 01, "What each operation turns away"): from bytes to parents, tops, bottoms, solo marks and windows.
 use jobs::JobCheck;
 use model::Counts;
 use model::JobNumber;
@@ -21,13 +21,20 @@ ghost use Rattle.reading.specs.Steps.{Spare, BuffersReady, judgedAtEnd};
 ghost use Rattle.table.specs.Whole.{BuffersLong, Placed, Told, LinesOutcome};
 
 // As buffers are where nothing is used.
-fn clear(parents: &mut [u16], tops: &mut [u16], bottoms: &mut [u16], marks: &mut [u8])
-    ensures { λ r. ⌜ Spare (now (parents .exit)) (now (tops .exit)) (now (bottoms .exit)) (now (marks .exit)) 0 0 ⌝ }
+fn clear(
+    parents: &mut [u16],
+    tops: &mut [u16],
+    bottoms: &mut [u16],
+    marks: &mut [u8],
+    windows: &mut [u8],
+)
+    ensures { λ r. ⌜ Spare (now (parents .exit)) (now (tops .exit)) (now (bottoms .exit)) (now (marks .exit)) (now (windows .exit)) 0 0 ⌝ }
 {
     buffers::fill(parents, model::ABSENT);
     buffers::fill(tops, model::ABSENT);
     buffers::fill(bottoms, model::ABSENT);
-    buffers::clear_marks(marks);
+    buffers::clear_bytes(marks);
+    buffers::clear_bytes(windows);
 }
 
 // The answer for a table with a right end, once its jobs are checked: the first wrong one, at its own line, comes before what stands after the end.
@@ -55,28 +62,35 @@ pub fn read_lines(
     tops: &mut [u16],
     bottoms: &mut [u16],
     marks: &mut [u8],
+    windows: &mut [u8],
     tree: &mut [u16; TREE],
 ) -> TableRead
-    requires { ⌜ BuffersReady (now bytes) (now parents) (now tops) (now bottoms) (now marks) ⌝ }
+    requires { ⌜ BuffersReady (now bytes) (now parents) (now tops) (now bottoms) (now marks) (now windows) ⌝ }
     requires { ⌜ length (now tree) ≡ treeCells ⌝ }
-    ensures { λ r. ⌜ LinesOutcome (readTable (now (bytes .entry))) (now (parents .exit)) (now (tops .exit)) (now (bottoms .exit)) (now (marks .exit)) (now (tree .exit)) r ⌝ }
+    ensures { λ r. ⌜ LinesOutcome (readTable (now (bytes .entry))) (now (parents .exit)) (now (tops .exit)) (now (bottoms .exit)) (now (marks .exit)) (now (windows .exit)) (now (tree .exit)) r ⌝ }
 {
-    let lines = reading::read_unchecked(bytes, parents, tops, bottoms, marks);
+    let lines = reading::read_unchecked(bytes, parents, tops, bottoms, marks, windows);
     match lines {
         Lines::Refused(r) => TableRead::Refused(r),
         Lines::Ended(counts, after) => {
             let layouts = counts.layouts as usize;
             let jobs = counts.jobs as usize;
             settle::settle_tree(&parents[..layouts], tree);
-            let check = jobs::check_jobs(tree, layouts, &tops[..jobs], &bottoms[..jobs]);
+            let check = jobs::check_jobs(
+                tree,
+                layouts,
+                &tops[..jobs],
+                &bottoms[..jobs],
+                &windows[..jobs],
+            );
             answer(bytes, counts, after, check)
         }
     }
 }
 
 // Whether the buffers are as long as asked for.
-fn long_enough(parents: usize, tops: usize, bottoms: usize, marks: usize) -> bool
-    ensures { λ r. ⌜ buffersVerdict parents tops bottoms marks ≡ refuseIf (not r) 8 0 ⌝ }
+fn long_enough(parents: usize, tops: usize, bottoms: usize, marks: usize, windows: usize) -> bool
+    ensures { λ r. ⌜ buffersVerdict parents tops bottoms marks windows ≡ refuseIf (not r) 8 0 ⌝ }
 {
     if parents < LayoutNumber::LIMIT {
         return false;
@@ -87,7 +101,10 @@ fn long_enough(parents: usize, tops: usize, bottoms: usize, marks: usize) -> boo
     if bottoms < JobNumber::LIMIT {
         return false;
     }
-    JobNumber::LIMIT <= marks
+    if marks < JobNumber::LIMIT {
+        return false;
+    }
+    JobNumber::LIMIT <= windows
 }
 
 // Reads a table into buffers that are long enough. After a refusal they are clear.
@@ -97,35 +114,43 @@ fn read_into(
     tops: &mut [u16],
     bottoms: &mut [u16],
     marks: &mut [u8],
+    windows: &mut [u8],
 ) -> TableRead
-    requires { ⌜ BuffersLong (now parents) (now tops) (now bottoms) (now marks) ⌝ }
-    ensures { λ r. ⌜ ReadAs accepted (readTable (now (bytes .entry))) (now (parents .entry)) (now (tops .entry)) (now (bottoms .entry)) (now (marks .entry)) r (now (parents .exit)) (now (tops .exit)) (now (bottoms .exit)) (now (marks .exit)) ⌝ }
+    requires { ⌜ BuffersLong (now parents) (now tops) (now bottoms) (now marks) (now windows) ⌝ }
+    ensures { λ r. ⌜ ReadAs accepted (readTable (now (bytes .entry))) (now (parents .entry)) (now (tops .entry)) (now (bottoms .entry)) (now (marks .entry)) (now (windows .entry)) r (now (parents .exit)) (now (tops .exit)) (now (bottoms .exit)) (now (marks .exit)) (now (windows .exit)) ⌝ }
 {
     let mut tree = [0u16; TREE];
-    clear(parents, tops, bottoms, marks);
-    let answer = read_lines(bytes, parents, tops, bottoms, marks, &mut tree);
+    clear(parents, tops, bottoms, marks, windows);
+    let answer = read_lines(bytes, parents, tops, bottoms, marks, windows, &mut tree);
     match answer {
         TableRead::Read(c) => TableRead::Read(c),
         TableRead::Refused(r) => {
-            clear(parents, tops, bottoms, marks);
+            clear(parents, tops, bottoms, marks, windows);
             TableRead::Refused(r)
         }
     }
 }
 
 // Reads a table: N and M with the table in the buffers, or a refusal. Refusal 8 leaves them as they were; after any other every number
-// cell is FFFF and every mark 0, as unused cells are on success.
+// cell is FFFF and every mark and window 0, as unused cells are on success.
 pub fn read_table(
     bytes: &[u8],
     parents: &mut [u16],
     tops: &mut [u16],
     bottoms: &mut [u16],
     marks: &mut [u8],
+    windows: &mut [u8],
 ) -> TableRead
-    ensures { λ r. ⌜ ReadOutcome (now (bytes .entry)) (now (parents .entry)) (now (tops .entry)) (now (bottoms .entry)) (now (marks .entry)) r (now (parents .exit)) (now (tops .exit)) (now (bottoms .exit)) (now (marks .exit)) ⌝ }
+    ensures { λ r. ⌜ ReadOutcome (now (bytes .entry)) (now (parents .entry)) (now (tops .entry)) (now (bottoms .entry)) (now (marks .entry)) (now (windows .entry)) r (now (parents .exit)) (now (tops .exit)) (now (bottoms .exit)) (now (marks .exit)) (now (windows .exit)) ⌝ }
 {
-    if long_enough(parents.len(), tops.len(), bottoms.len(), marks.len()) {
-        return read_into(bytes, parents, tops, bottoms, marks);
+    if long_enough(
+        parents.len(),
+        tops.len(),
+        bottoms.len(),
+        marks.len(),
+        windows.len(),
+    ) {
+        return read_into(bytes, parents, tops, bottoms, marks, windows);
     }
     TableRead::Refused(Refusal {
         number: 8,

@@ -12,8 +12,9 @@
 use std::time::{Duration, Instant};
 use tests::made::mixtures::{lines_mixed, Kind};
 use tests::made::tables::{table_of_shape, Reach, Shape, Size};
+use tests::made::windows::{spread, Spread};
 use tests::made::Generator;
-use tests::reference::{Table, JOB_LIMIT, LAYOUT_LIMIT, OUTPUT_BYTES};
+use tests::reference::{Table, JOB_LIMIT, LAYOUT_LIMIT, OUTPUT_BYTES, WINDOW_LIMIT};
 use tests::{by_hand, library, reference};
 
 const ROUNDS: usize = 50;
@@ -30,6 +31,9 @@ const SHAPES: [Shape; 5] = [
 ];
 
 const JOBS: [usize; 3] = [64, 512, JOB_LIMIT];
+
+/// How many windows the jobs of full tables are in, beside one.
+const WINDOWS: [usize; 2] = [4, WINDOW_LIMIT];
 
 /// Where the lines of layouts stand.
 #[derive(Clone, Copy)]
@@ -53,25 +57,43 @@ struct Times {
 fn main() {
     println!("times in µs; ratios: proved / by hand, quadratic / proved");
     println!(
-        "{:8} {:12} {:>15} {:>6} {:>9} {:>9} {:>11} {:>7} {:>7}",
-        "tree", "paths", "layouts", "jobs", "proved", "by hand", "quadratic", "p / h", "q / p"
+        "{:8} {:12} {:>15} {:>6} {:>8} {:>9} {:>9} {:>11} {:>7} {:>7}",
+        "tree",
+        "paths",
+        "layouts",
+        "jobs",
+        "windows",
+        "proved",
+        "by hand",
+        "quadratic",
+        "p / h",
+        "q / p"
     );
     for jobs in [64, 512] {
         let size = Size {
             layouts: jobs,
             jobs,
         };
-        rows(Reach::Any, size, Layouts::First);
+        rows(Reach::Any, size, Layouts::First, 1);
     }
-    let by_jobs = JOBS.map(|jobs| rows(Reach::Any, full_tree(jobs), Layouts::First));
+    let by_jobs = JOBS.map(|jobs| rows(Reach::Any, full_tree(jobs), Layouts::First, 1));
     for reach in [Reach::Point, Reach::Whole] {
-        rows(reach, full_tree(JOB_LIMIT), Layouts::First);
+        rows(reach, full_tree(JOB_LIMIT), Layouts::First, 1);
     }
     for layouts in [Layouts::Last, Layouts::Between] {
-        rows(Reach::Any, full_tree(JOB_LIMIT), layouts);
+        rows(Reach::Any, full_tree(JOB_LIMIT), layouts, 1);
+    }
+    let full = full_tree(JOB_LIMIT);
+    let in_windows = |reach| WINDOWS.map(|windows| rows(reach, full, Layouts::First, windows));
+    let by_windows = in_windows(Reach::Any);
+    for reach in [Reach::Point, Reach::Whole] {
+        in_windows(reach);
     }
     for (at, shape) in SHAPES.into_iter().enumerate() {
-        print_growth(shape, by_jobs.each_ref().map(|times| times[at].proved));
+        let jobs = by_jobs.each_ref().map(|times| times[at].proved);
+        print_growth(shape, jobs);
+        let windows = by_windows.each_ref().map(|times| times[at].proved);
+        print_windows(shape, jobs[2], windows);
     }
 }
 
@@ -80,12 +102,14 @@ fn full_tree(jobs: usize) -> Size {
     Size { layouts, jobs }
 }
 
-/// The rows of trees of each shape.
-fn rows(reach: Reach, size: Size, layouts: Layouts) -> Vec<Times> {
+/// The rows of trees of each shape, the jobs in any of so many windows.
+fn rows(reach: Reach, size: Size, layouts: Layouts, windows: usize) -> Vec<Times> {
     let shapes = SHAPES.into_iter();
     shapes
         .map(|shape| {
-            let table = table_of_shape(shape, reach, size, &mut Generator::new(1));
+            let mut generator = Generator::new(1);
+            let mut table = table_of_shape(shape, reach, size, &mut generator);
+            spread(&mut table, Spread::First(windows), &mut generator);
             let name = format!("{:8} {:12}", format!("{shape:?}"), path_name(reach));
             row(&name, &table, layouts)
         })
@@ -115,9 +139,10 @@ fn kinds(layouts: Layouts) -> Vec<Kind> {
 
 fn print_row(name: &str, table: &Table, layouts: Layouts, times: &Times) {
     println!(
-        "{name} {:>15} {:>6} {:>9.1} {:>9.1} {:>11.1} {:>7.2} {:>7.1}",
+        "{name} {:>15} {:>6} {:>8} {:>9.1} {:>9.1} {:>11.1} {:>7.2} {:>7.1}",
         format!("{} {}", table.layouts(), layouts_name(layouts)),
         table.jobs(),
+        table.windows_used().len(),
         microseconds(times.proved),
         microseconds(times.by_hand),
         microseconds(times.quadratic),
@@ -133,6 +158,15 @@ fn print_growth(shape: Shape, [few, some, full]: [Duration; 3]) {
         some.div_duration_f64(few),
         full.div_duration_f64(some),
         full.div_duration_f64(few),
+    );
+}
+
+/// How the time of a full table changes with the windows.
+fn print_windows(shape: Shape, one: Duration, [some, all]: [Duration; 2]) {
+    println!(
+        "{shape:?}, proved: 1 to 4 windows × {:.2}, 1 to 16 × {:.2}",
+        some.div_duration_f64(one),
+        all.div_duration_f64(one),
     );
 }
 

@@ -8,6 +8,9 @@ use std::path::{Path, PathBuf};
 use std::process::ExitCode;
 use tests::report::{same, Outcome, Report};
 
+/// Must-fail edits, as crate and name.
+type Edits = BTreeSet<(String, String)>;
+
 fn main() -> ExitCode {
     let mut report = Report::new("documents");
     let rules = text("docs/RULES.md");
@@ -21,15 +24,23 @@ fn main() -> ExitCode {
         let target = document.with_file_name("").join(&link);
         same(&format!("{link} of {document:?}"), target.exists(), true)
     });
-    let trace = text("docs/TRACE.md");
-    let named: BTreeSet<&str> = trace.split(|c| !is_edit_letter(c)).collect();
+    let named = named_edits(&text("docs/TRACE.md"));
     report.listed("edits in TRACE", edits(), |(name, edit)| {
-        let ways = [format!("{name}/{edit}"), format!("{name}/"), edit.clone()];
-        let found = ways.iter().any(|way| named.contains(way.as_str()));
+        let all = (name.clone(), "*".to_string());
+        let found = named.contains(&all) || named.contains(&(name.clone(), edit.clone()));
         same(&format!("{name}/{edit} in TRACE"), found, true)
     });
-    report.listed("edits that TRACE names", named_edits(&named), |edit| {
-        same(&format!("{edit:?}"), edits().contains(&edit), true)
+    let by_name = named.iter().filter(|(_, edit)| edit != "*");
+    report.listed("edits that TRACE names", by_name, |edit| {
+        same(&format!("{edit:?}"), edits().contains(edit), true)
+    });
+    let (new, gone) = edits_of_notes();
+    report.listed("new edits of the change notes", new, |edit| {
+        let known = edits().contains(&edit) || gone.contains(&edit);
+        same(&format!("{edit:?} there or gone"), known, true)
+    });
+    report.listed("gone edits of the change notes", &gone, |edit| {
+        same(&format!("{edit:?}"), edits().contains(edit), false)
     });
     report.listed("the man page's examples", man_page_examples(), |lines| {
         holds(&text("docs/plan.1"), "the man page", &lines)
@@ -113,8 +124,8 @@ fn links() -> Vec<(PathBuf, String)> {
     links
 }
 
-/// Each must-fail edit, as crate and name.
-fn edits() -> BTreeSet<(String, String)> {
+/// Each must-fail edit.
+fn edits() -> Edits {
     let crates = files("crates", "");
     let folders = crates.iter().filter(|path| path.join("must-fail").is_dir());
     folders
@@ -134,22 +145,50 @@ fn stem(path: &Path) -> String {
     stem.to_string_lossy().into_owned()
 }
 
-fn is_edit_letter(c: char) -> bool {
-    c.is_ascii_lowercase() || "_/".contains(c)
+/// The edits that a text names, `*` for all of a crate. In a cell of a table, or in the text between two
+/// tables, a name alone is of the crate that was named last. Code, which stands in backquotes, names
+/// none.
+fn named_edits(text: &str) -> Edits {
+    let crates: BTreeSet<String> = edits().into_iter().map(|(name, _)| name).collect();
+    let mut named = BTreeSet::new();
+    for cell in text.split('|') {
+        let mut last = "";
+        for word in cell.split('`').step_by(2).flat_map(words) {
+            let (name, edit) = word.split_once('/').unwrap_or((last, word));
+            let is_edit = edit == "*" || edit.contains('_') && !crates.contains(word);
+            if is_edit && crates.contains(name) {
+                named.insert((name.to_string(), edit.to_string()));
+            }
+            last = name;
+        }
+    }
+    named
 }
 
-/// The words `crate/edit`, where the crate has edits.
-fn named_edits(words: &BTreeSet<&str>) -> BTreeSet<(String, String)> {
-    let crates: BTreeSet<String> = edits().into_iter().map(|(name, _)| name).collect();
-    let pairs = words.iter().filter_map(|word| word.split_once('/'));
-    pairs
-        .filter(|(name, edit)| crates.contains(*name) && edit.contains('_'))
-        .map(|(name, edit)| (name.to_string(), edit.to_string()))
-        .collect()
+fn words(text: &str) -> impl Iterator<Item = &str> {
+    text.split(|c: char| !(c.is_ascii_alphanumeric() || "_/*".contains(c)))
+        .filter(|word| !word.is_empty())
+}
+
+/// The edits that the change notes say are new, and those that they say are gone.
+fn edits_of_notes() -> (Edits, Edits) {
+    let notes = files("docs/changes", ".md").into_iter().map(text);
+    let notes: Vec<String> = notes.collect();
+    let named_after = |start: &str| {
+        let lists = notes.iter().flat_map(|note| note.split(start).skip(1));
+        lists
+            .filter_map(|list| list.split('.').next())
+            .flat_map(named_edits)
+            .collect()
+    };
+    (
+        named_after("New must-fail edits:"),
+        named_after("Gone with"),
+    )
 }
 
 /// The lines of the examples that the man page shows.
-fn man_page_examples() -> [String; 7] {
+fn man_page_examples() -> [String; 9] {
     [
         "examples/bakehouse.table",
         "examples/bakehouse.plan",
@@ -158,6 +197,8 @@ fn man_page_examples() -> [String; 7] {
         "examples/added-layout.table",
         "examples/added-layout.plan",
         "examples/exchanged.plan",
+        "examples/windows.table",
+        "examples/windows.plan",
     ]
     .map(|path| format!(".Bd -literal -offset indent\n{}.Ed\n", text(path)))
 }

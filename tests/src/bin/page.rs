@@ -1,12 +1,12 @@
 //! Pages of tables: well formed, with each turn of the sweep in words, and driven in a browser where
-//! one is installed, by keys, buttons and finger, in a narrow and a wide window, and printed.
+//! one is installed, by keys, buttons and finger, in a narrow and a wide frame, and printed.
 
 use std::process::ExitCode;
 use tests::browser::Browser;
 use tests::examples::{named, BAKEHOUSE_BYTES};
 use tests::made::tables::{table, table_of_size};
 use tests::page_checks::driving::{drive, print};
-use tests::page_checks::{bakehouse, bare_sheet, both_ends};
+use tests::page_checks::{bakehouse, bare_sheet, both_ends, windows};
 use tests::page_checks::{holds_turns, page_of, read_page, words_of_turns};
 use tests::picture_checks::size_to_draw;
 use tests::reference::table::table_lines;
@@ -25,6 +25,10 @@ fn main() -> ExitCode {
     report.listed("the turns of both ends", [()], |()| {
         let bytes = table_lines(&named("both ends")?.table).concat();
         tells(&bytes, &both_ends::TURNS)
+    });
+    report.listed("the turns of printing windows", [()], |()| {
+        let bytes = table_lines(&named("printing windows")?.table).concat();
+        tells(&bytes, &windows::TURNS)
     });
     report.made("legible tables", 300, |generator| {
         let table = table_of_size(size_to_draw(generator), generator);

@@ -107,7 +107,7 @@ const fn stored(file: &'static str, table: &'static str, shown: Shown) -> Stored
     Stored { file, table, shown }
 }
 
-const STORED: [Stored; 13] = [
+const STORED: [Stored; 14] = [
     stored("examples/added-layout", "added-layout", Shown::Product),
     stored("examples/bakehouse", "bakehouse", Shown::Product),
     stored("examples/bakehouse-cut-3", "bakehouse", Shown::Cut(3)),
@@ -119,6 +119,7 @@ const STORED: [Stored; 13] = [
     stored("examples/solo", "solo", Shown::Product),
     stored("examples/two-branches", "two-branches", Shown::Product),
     stored("examples/two-jobs", "two-jobs", Shown::Product),
+    stored("examples/windows", "windows", Shown::Product),
     stored(
         "docs/pictures/shallowest-first",
         "two-branches",
@@ -267,13 +268,14 @@ fn not_drawn(planner: &WrongPlanner) -> Outcome {
     same(planner.name, planned(table, call).is_err(), true)
 }
 
-/// Of the wrong planners, some pair jobs that do not share or that are solo, and one refuses: none of
-/// these can be drawn.
+/// Of the wrong planners, some pair jobs that do not share, that are solo or of two windows, and one
+/// refuses: none of these can be drawn.
 fn rule_breakers() -> Outcome {
     for (planner, table) in [
         ("spans without depths", "above the highest layout"),
         ("pairs on layout 0", "layout 0 alone in common"),
         ("marks ignored", "a solo job that could share"),
+        ("windows ignored", "two windows"),
         ("refusing each table", "no jobs"),
         ("nobody", "no jobs"),
     ] {

@@ -5,39 +5,45 @@
 use std::fs;
 use std::path::PathBuf;
 use std::process::ExitCode;
-use tests::bare_sheet::Search;
 use tests::both_ends::{self, downward};
 use tests::by_hand;
 use tests::examples::{
-    bakehouse, marked, named, telling, Begins, Said, Stretch, BAKEHOUSE_BYTES, BAKEHOUSE_LOOKUPS,
-    BAKEHOUSE_ORDER, BAKEHOUSE_PLAN, PRINTINGS, READINGS, STRETCHES,
+    bakehouse, in_turn, lent, marked, named, telling, Begins, Said, Stretch, BAKEHOUSE_BYTES,
+    BAKEHOUSE_LOOKUPS, BAKEHOUSE_ORDER, BAKEHOUSE_PLAN, PRINTINGS, READINGS, STRETCHES,
 };
+use tests::forbidden::Search;
 use tests::made::mixtures::any_lines;
-use tests::made::tables::{table, table_of_size, Size};
+use tests::made::tables::{table, table_for_search, table_of_size, Size};
+use tests::made::windows::{any_spread, spread_solo_jobs};
 use tests::made::Generator;
-use tests::plan_checks::{check_example, small_tables, Planner};
+use tests::plan_checks::{check_example, small_tables, small_windows, Planner};
 use tests::reference::paths::{depth_of_highest, highest, is_bare, own_paths, BARE_SHEET};
 use tests::reference::plan::{plan, plan_of, running_order, Plan, Results, Room, Totals};
 use tests::reference::rivals::{keeps_rules, most_before_cuts, pairs_before_cuts, pairs_of};
 use tests::reference::run::run;
+use tests::reference::shelf::{Answer, Shelf};
 use tests::reference::stretch::shared_stretch;
 use tests::reference::sweep::{plan_of_turns, turns, Event, Turn, Verdict};
 use tests::reference::table::{read, table_lines};
 use tests::reference::tree::{leaves_of_each, settled, Settled};
-use tests::reference::visits::{lookup_visits, slot_leaves, visits};
-use tests::reference::{Refusal, Table, ABSENT, WORK_CELLS};
+use tests::reference::visits::{visits, Slots};
+use tests::reference::{Refusal, Table, ABSENT, WINDOW_LIMIT, WORK_CELLS};
 use tests::report::{same, Outcome, Report};
 use tests::run_checks;
+use tests::windows_apart;
 use tests::wrong_planners::{wrong_planners, WrongPlanner};
 
 fn main() -> ExitCode {
     let mut report = Report::new("reference");
     let search = Search::default();
     report.listed("the bakehouse table", [()], |()| bakehouse_as_printed());
-    let examples = marked().into_iter().chain(telling());
+    let examples = marked().into_iter().chain(telling()).chain(in_turn());
     report.listed("tables worked by hand", examples, |example| {
         check_example(&reference_planner, &example)?;
         read_as_said(&table_lines(&example.table).concat(), &example.said)
+    });
+    report.listed("numbers that no reader gives", lent(), |example| {
+        check_example(&reference_planner, &example)
     });
     report.listed("example tables", EXAMPLE_FILES, planned_as_stored);
     report.listed("document 01's refusals", READINGS, |(bytes, refusal)| {
@@ -53,7 +59,9 @@ fn main() -> ExitCode {
         stretches_of_paths(&table_of_size(medium_size(generator), generator))
     });
     report.listed("visits of every span", spans(), visits_within_bound);
-    report.listed("most pairs of every small table", small_tables(), |table| {
+    report.made("a shelf beside a plain list", 2_000, shelf_as_list);
+    let tables = small_tables().into_iter().chain(small_windows());
+    report.listed("most pairs of every small table", tables, |table| {
         let plan = searched_plan(&search, &table);
         both_ends::check(&table, plan.results())?;
         best_at_every_cut(&table, &plan)
@@ -79,6 +87,13 @@ fn main() -> ExitCode {
         let table = table_of_size(medium_size(generator), generator);
         sweep_by_turns(&table, &searched_plan(&search, &table))
     });
+    report.made("windows apart", 3_000, |generator| {
+        let table = with_windows(generator);
+        windows_apart::check(&table, &plan_of(&table))
+    });
+    report.made("windows renamed", 1_000, |generator| {
+        same_in_other_windows(with_windows(generator), generator)
+    });
     report.made("read after writing", 3_000, |generator| {
         let table = table(generator);
         let bytes = any_lines(&table, generator).concat();
@@ -87,8 +102,11 @@ fn main() -> ExitCode {
     report.listed("wrong planners", wrong_planners(), |planner| {
         caught(&planner)
     });
-    report.none_on_layout_0(&search);
+    report.nothing_forbidden(&search);
     report.listed("the search for layout 0", [()], |()| search_finds());
+    report.listed("the search for pairs of two windows", [()], |()| {
+        search_finds_windows()
+    });
     // The whole run that the benchmark measures against.
     run_checks::run(&mut report, &by_hand::run_into);
     report.finish()
@@ -127,13 +145,13 @@ fn bakehouse_as_printed() -> Outcome {
     same("plan", run(BAKEHOUSE_BYTES), BAKEHOUSE_PLAN.to_vec())?;
     let order = running_order(&table);
     same("order", order.as_slice(), &BAKEHOUSE_ORDER)?;
-    let leaves = slot_leaves(&table, &order);
-    let lookups = BAKEHOUSE_LOOKUPS.map(|(job, _)| (job, lookup_visits(&leaves, job)));
+    let slots = Slots::new(&table, &order);
+    let lookups = BAKEHOUSE_LOOKUPS.map(|(job, _)| (job, slots.visits(job)));
     same("lookups", lookups, BAKEHOUSE_LOOKUPS)
 }
 
 /// The tables in `examples`, with their plans beside them.
-const EXAMPLE_FILES: [&str; 10] = [
+const EXAMPLE_FILES: [&str; 11] = [
     "added-layout",
     "bakehouse",
     "bare-sheet",
@@ -144,6 +162,7 @@ const EXAMPLE_FILES: [&str; 10] = [
     "solo",
     "two-branches",
     "two-jobs",
+    "windows",
 ];
 
 fn planned_as_stored(name: &str) -> Outcome {
@@ -208,12 +227,42 @@ fn spans() -> Vec<(usize, usize, usize)> {
         .collect()
 }
 
-/// One lookup visits at most 4k + 1 nodes, and an empty span ends at the root.
+/// One lookup visits at most 4k + 1 nodes, and an empty span ends at the root. A shelf of so many slots
+/// visits as many.
 fn visits_within_bound((width, from, to): (usize, usize, usize)) -> Outcome {
     let asked: Vec<bool> = (0..width).map(|slot| from <= slot && slot < to).collect();
     let count = visits(&asked);
     let within = count <= 4 * width.trailing_zeros() + 1 && (from < to || count == 1);
-    same("within the bound", within, true)
+    same("within the bound", within, true)?;
+    let shelf = Shelf::new((0..width).map(|job| (job, job)));
+    same("of a shelf", shelf.lookup(&(from..to)).visits, count)
+}
+
+/// A shelf behaves, call by call, as a plain list of slots and places that is asked for its smallest
+/// place in a span.
+fn shelf_as_list(generator: &mut Generator) -> Outcome {
+    let jobs = generator.between(1, 20);
+    let mut shelf = Shelf::new((0..jobs).map(|job| (job, job)));
+    let mut list: Vec<(usize, usize)> = Vec::new();
+    for place in 0..generator.between(1, 60) {
+        let slot = generator.below(jobs);
+        match list.iter().position(|&(held, _)| held == slot) {
+            Some(at) => {
+                list.remove(at);
+                shelf.take(slot);
+            }
+            None => {
+                list.push((slot, place));
+                shelf.put(slot, place);
+            }
+        }
+        let from = generator.between(0, jobs);
+        let to = generator.between(from, jobs);
+        let held = list.iter().filter(|(slot, _)| (from..to).contains(slot));
+        let Answer { place, .. } = shelf.lookup(&(from..to));
+        same("place", place, held.map(|&(_, place)| place).min())?;
+    }
+    Ok(())
 }
 
 /// The plan of this implementation, searched for layout 0.
@@ -232,13 +281,23 @@ fn best_at_every_cut(table: &Table, plan: &Plan) -> Outcome {
     same("pairs in front of the cuts", ours, most_before_cuts(table))
 }
 
-/// At most eight jobs, so that every rival can be tried.
-fn table_for_search(generator: &mut Generator) -> Table {
-    let size = Size {
-        layouts: generator.between(1, 9),
-        jobs: generator.between(2, 8),
-    };
-    table_of_size(size, generator)
+/// A table with jobs of all kinds in windows.
+fn with_windows(generator: &mut Generator) -> Table {
+    let mut table = table_of_size(medium_size(generator), generator);
+    let windows = any_spread(generator);
+    spread_solo_jobs(&mut table, windows, generator);
+    table
+}
+
+/// Which window is which does not matter to a plan.
+fn same_in_other_windows(mut table: Table, generator: &mut Generator) -> Outcome {
+    let plan = plan_of(&table);
+    let turn = generator.below(WINDOW_LIMIT) as u8;
+    let odd = generator.choice(&[1, 3, 5, 7]);
+    for window in &mut table.windows {
+        *window = (*window * odd + turn) % WINDOW_LIMIT as u8;
+    }
+    same("plan", plan_of(&table), plan)
 }
 
 fn medium_size(generator: &mut Generator) -> Size {
@@ -293,8 +352,8 @@ fn fits(table: &Table, tree: &Settled, i: usize, j: usize) -> bool {
         && depth_i <= usize::from(tree.depths[bottom_j])
 }
 
-/// The turns make the plan, each finds the first free later job that shares, and of the others it
-/// says that they would do exactly if they are free, later and share.
+/// The turns make the plan, each finds the first free later job of its window that shares, and of the
+/// others it says that they would do exactly if they are free, later, of its window and share.
 fn sweep_by_turns(table: &Table, plan: &Plan) -> Outcome {
     let turns = turns(table);
     same("plan", &plan_of_turns(table, &turns), plan)?;
@@ -302,17 +361,18 @@ fn sweep_by_turns(table: &Table, plan: &Plan) -> Outcome {
     let before_cuts = pairs_before_cuts(table, &pairs_of(&plan.partners));
     same("pairs in front", in_front.as_slice(), &before_cuts[1..])?;
     let paths = own_paths(table);
-    let shares = |job: usize, other: usize| paths[job].meets(&paths[other]);
+    let fits =
+        |job: usize, other: usize| table.same_window(job, other) && paths[job].meets(&paths[other]);
     turns
         .iter()
-        .try_for_each(|turn| judges(table, turn, &turns, &shares))
+        .try_for_each(|turn| judges(table, turn, &turns, &fits))
 }
 
 fn judges(
     table: &Table,
     turn: &Turn,
     turns: &[Turn],
-    shares: &dyn Fn(usize, usize) -> bool,
+    fits: &dyn Fn(usize, usize) -> bool,
 ) -> Outcome {
     let asks_nobody = matches!(turn.event, Event::Solo | Event::Bare);
     let expected = table.solo(turn.job) || is_bare(table, turn.job);
@@ -326,7 +386,7 @@ fn judges(
     for &(other, verdict) in &lookup.others {
         let free = later(other) && !taken(other) && !table.solo(other);
         let does = matches!(verdict, Verdict::Found | Verdict::Later(_));
-        same("does", does, free && shares(turn.job, other))?;
+        same("does", does, free && fits(turn.job, other))?;
     }
     Ok(())
 }
@@ -382,7 +442,7 @@ fn search_finds() -> Outcome {
                 (planner.plan)(&table).map_err(|refusal| format!("refused: {refusal:?}"))?;
             let search = Search::default();
             search.plan(&table, wrong.results());
-            same(planner.name, search.seen().found.is_some(), true)?;
+            same(planner.name, search.seen().on_layout_0.is_some(), true)?;
         }
     }
     for (upper, printed) in [(0, 0), (0, 1), (1, 0), (1, 1)] {
@@ -404,9 +464,33 @@ fn search_finds_ends(table: &Table, upper: u16, printed: u16) -> Outcome {
     in_lines.lines(&table_lines(table).concat(), lines.as_bytes());
     for seen in [in_cells.seen(), in_lines.seen()] {
         let on_layout_0 = upper == BARE_SHEET || printed == BARE_SHEET;
-        same("found", seen.found.is_some(), on_layout_0)?;
+        same("found", seen.on_layout_0.is_some(), on_layout_0)?;
+        same("across windows", seen.across_windows, None)?;
         let counts = (seen.pairs, seen.tops_0, seen.bare_jobs);
         same("pairs, tops 0 and jobs 0-0", counts, (1, 2, 0))?;
+    }
+    Ok(())
+}
+
+/// The search finds a pair of two windows, in cells and in lines, and of one window none.
+fn search_finds_windows() -> Outcome {
+    for (windows, across) in [([0, 0], false), ([15, 15], false), ([0, 1], true)] {
+        let mut table = named("two jobs on layout 1")?.table;
+        table.windows = windows.to_vec();
+        let (in_cells, in_lines) = (Search::default(), Search::default());
+        let results = Results {
+            partners: &[1, 0],
+            uppers: &[1; 2],
+            printed: &[1; 2],
+        };
+        in_cells.plan(&table, results);
+        let bytes = table_lines(&table).concat();
+        in_lines.lines(&bytes, b"110000000100010001\n1F0001000000000001\n");
+        for seen in [in_cells.seen(), in_lines.seen()] {
+            same("found", seen.across_windows.is_some(), across)?;
+            let plans = seen.plans.iter().position(|&plans| plans == 1);
+            same("windows", plans, Some(1 + usize::from(across)))?;
+        }
     }
     Ok(())
 }

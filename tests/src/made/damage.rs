@@ -5,7 +5,7 @@ use super::mixtures::any_lines;
 use super::tables;
 use super::Generator;
 use crate::reference::table::{frame_line, Frame};
-use crate::reference::{Table, ABSENT, JOB_LIMIT, LAYOUT_LIMIT};
+use crate::reference::{Table, ABSENT, JOB_LIMIT, LAYOUT_LIMIT, WINDOW_LIMIT};
 
 #[derive(Clone, Copy, Debug, PartialEq, Eq)]
 pub enum Damage {
@@ -32,6 +32,11 @@ pub enum Damage {
     BottomNoLayout,
     ExchangedEnds,
     OtherBottom,
+    OtherWindow,
+    WindowBeyond,
+    WindowGiven,
+    WindowAdded,
+    WindowLeftOut,
     UnknownKind,
     Truncated,
     Nothing,
@@ -43,7 +48,7 @@ pub enum Damage {
     EndFirst,
 }
 
-pub const DAMAGES: [Damage; 32] = [
+pub const DAMAGES: [Damage; 37] = [
     Damage::FlippedBit,
     Damage::OtherByte,
     Damage::OtherDigit,
@@ -67,6 +72,11 @@ pub const DAMAGES: [Damage; 32] = [
     Damage::BottomNoLayout,
     Damage::ExchangedEnds,
     Damage::OtherBottom,
+    Damage::OtherWindow,
+    Damage::WindowBeyond,
+    Damage::WindowGiven,
+    Damage::WindowAdded,
+    Damage::WindowLeftOut,
     Damage::UnknownKind,
     Damage::Truncated,
     Damage::Nothing,
@@ -78,8 +88,8 @@ pub const DAMAGES: [Damage; 32] = [
     Damage::EndFirst,
 ];
 
-/// Digits so many that their count passes for 10 or 6 in 16 bits, and others.
-pub const VERY_LONG: [usize; 4] = [65_546, 65_542, 65_547, 131_082];
+/// Digits so many that their count passes for 10, 6 or 12 in 16 bits, and others.
+pub const VERY_LONG: [usize; 5] = [65_546, 65_542, 65_548, 65_547, 131_082];
 
 const DIGITS: &[u8] = b"0123456789ABCDEF";
 
@@ -128,8 +138,9 @@ fn damage_numbers(damage: Damage, table: &mut Table, generator: &mut Generator) 
             }
         }
         Damage::TooManyJobs => {
+            let window = generator.choice(&[0, 0, 1, 0x0F, 0x10]);
             for _ in 0..JOB_LIMIT.saturating_sub(jobs) + generator.between(0, 2) {
-                table.add_job(0, generator.below(layouts) as u16, 0);
+                table.add_job_in(window, 0, generator.below(layouts) as u16, 0);
             }
         }
         _ if jobs == 0 => {}
@@ -144,8 +155,27 @@ fn damage_numbers(damage: Damage, table: &mut Table, generator: &mut Generator) 
         Damage::OtherBottom => {
             table.bottoms[generator.below(jobs)] = generator.below(layouts) as u16;
         }
+        Damage::OtherWindow => {
+            let window = generator.below(WINDOW_LIMIT) as u8;
+            put_in_window(table, window, generator);
+        }
+        Damage::WindowBeyond => put_in_window(table, window_beyond(generator), generator),
         _ => {}
     }
+}
+
+/// Some job is no longer solo, and in this window.
+fn put_in_window(table: &mut Table, window: u8, generator: &mut Generator) {
+    let job = generator.below(table.jobs());
+    table.marks[job] = 0;
+    table.windows[job] = window;
+}
+
+/// The first window beyond the last one, the greatest number, or some other, of which a reader of one
+/// digit would take the lower one.
+pub fn window_beyond(generator: &mut Generator) -> u8 {
+    let any = generator.between(WINDOW_LIMIT, 0xFF) as u8;
+    generator.choice(&[0x10, 0x10, 0xFF, 0x1F, 0x80, any])
 }
 
 /// Damages that leave whole lines, well formed or not.
@@ -175,6 +205,19 @@ fn damage_lines(
         Damage::ExtraLayout => {
             let parent = any_number(table.layouts(), generator);
             lines.insert(at, frame_line(Frame::Layout(parent)));
+        }
+        Damage::WindowGiven => {
+            add_window(&mut lines[at], generator);
+            lines[at][..2].copy_from_slice(b"05");
+        }
+        Damage::WindowAdded => add_window(&mut lines[at], generator),
+        Damage::WindowLeftOut => {
+            let is_windowed = |line: &&mut Vec<u8>| line.starts_with(b"05") && line.len() == 13;
+            let mut windowed: Vec<&mut Vec<u8>> = lines.iter_mut().filter(is_windowed).collect();
+            if !windowed.is_empty() {
+                let at = generator.below(windowed.len());
+                windowed[at].drain(10..12);
+            }
         }
         Damage::UnknownKind => {
             if let Some(digit) = lines[at].get_mut(generator.below(2)) {
@@ -251,9 +294,26 @@ fn carriage_returns(bytes: &mut Vec<u8>, generator: &mut Generator) {
 
 /// Digits more in front of the line's end.
 fn lengthen(line: &mut Vec<u8>, more: usize, generator: &mut Generator) {
+    let digits = (0..more).map(|_| generator.choice(DIGITS)).collect();
+    insert_at_end(line, digits);
+}
+
+/// The two digits of a window there.
+fn add_window(line: &mut Vec<u8>, generator: &mut Generator) {
+    let window = format!("{:02X}", any_window(generator));
+    insert_at_end(line, window.into_bytes());
+}
+
+fn insert_at_end(line: &mut Vec<u8>, digits: Vec<u8>) {
     let end = line.len().saturating_sub(1);
-    let digits: Vec<u8> = (0..more).map(|_| generator.choice(DIGITS)).collect();
     line.splice(end..end, digits);
+}
+
+/// Mostly a window.
+fn any_window(generator: &mut Generator) -> u8 {
+    let window = generator.below(WINDOW_LIMIT) as u8;
+    let beyond = window_beyond(generator);
+    generator.choice(&[window, window, 0, 0x0F, beyond])
 }
 
 /// A number near a bound, or any.
@@ -284,18 +344,18 @@ fn any_byte(generator: &mut Generator) -> u8 {
 /// A well-formed line, or one that is not.
 pub fn any_line(layouts: usize, generator: &mut Generator) -> Vec<u8> {
     let mut number = || any_number(generator.below(layouts + 1), generator);
-    let (first, second) = (number(), number());
-    let job = |mark| Frame::Job {
-        top: first,
-        bottom: second,
-        mark,
-    };
-    match generator.below(8) {
-        0 | 1 => frame_line(Frame::Layout(first)),
-        2 | 3 => frame_line(job(0)),
-        4 => frame_line(job(1)),
-        5 => end_line(first, second),
-        6 => b"\n".to_vec(),
+    let (top, bottom) = (number(), number());
+    match generator.below(10) {
+        0 | 1 => frame_line(Frame::Layout(top)),
+        2 | 3 => frame_line(Frame::Job { top, bottom }),
+        4 => frame_line(Frame::Solo { top, bottom }),
+        5 | 6 => frame_line(Frame::Windowed {
+            top,
+            bottom,
+            window: any_window(generator),
+        }),
+        7 => end_line(top, bottom),
+        8 => b"\n".to_vec(),
         _ => (0..generator.below(12))
             .map(|_| any_byte(generator))
             .collect(),
@@ -318,7 +378,7 @@ pub fn nearly_right_lines(generator: &mut Generator) -> Vec<u8> {
     lines.concat()
 }
 
-/// A small table whose parents may be wrong, and whose tops and bottoms are any numbers.
+/// A small table whose parents may be wrong, and whose tops, bottoms and windows are any numbers.
 pub fn nearly_right_table(generator: &mut Generator) -> Table {
     let layouts = generator.between(1, 5);
     let mut table = Table {
@@ -335,7 +395,11 @@ pub fn nearly_right_table(generator: &mut Generator) -> Table {
             generator.below(numbers) as u16,
         );
         let top = generator.choice(&[0, 0, top]);
-        table.add_job(top, bottom, u8::from(generator.one_in(4)));
+        match generator.below(8) {
+            0 | 1 => table.add_job(top, bottom, 1),
+            2..=4 => table.add_job_in(any_window(generator), top, bottom, 0),
+            _ => table.add_job(top, bottom, 0),
+        }
     }
     table
 }

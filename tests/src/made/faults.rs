@@ -1,5 +1,5 @@
-//! Tables with faults put in at chosen places, and the refusal that wins (2026-04). Which one wins is
-//! told by when each of them comes up, the earliest first, and not by reading the lines.
+//! Tables with faults put in at chosen places, and the refusal that wins (2026-04, 2026-05). Which one
+//! wins is told by when each of them comes up, the earliest first, and not by reading the lines.
 
 use crate::reference::{Refusal, JOB_LIMIT, LAYOUT_LIMIT};
 
@@ -10,10 +10,16 @@ pub enum Fault {
     /// A layout or a job beyond the limit, whichever the table is full of.
     Beyond,
     WrongParent,
-    /// A job whose bottom is no layout.
+    /// A job whose bottom is no layout, its window not written, or written.
     NoLayout,
-    /// A job whose bottom is above its top.
+    WindowedNoLayout,
+    /// A job whose bottom is above its top, its window not written, or written.
     Upward,
+    WindowedUpward,
+    /// A job in the first window beyond the last one, otherwise right.
+    WindowBeyond,
+    /// A job whose window is FF, and whose bottom is no layout.
+    WindowFF,
 }
 
 #[derive(Clone, Copy, Debug, PartialEq, Eq)]
@@ -29,6 +35,8 @@ pub enum End {
 pub enum Late {
     Frame,
     NoFrame,
+    LastWindow,
+    WindowBeyond,
 }
 
 /// A table to put faults into: between its last lines, each before one of them or after the last.
@@ -48,15 +56,19 @@ const LAST: usize = 3;
 const FIRST_LAYOUT: &str = "01FFFF";
 const LAYOUT: &str = "010000";
 const JOB: &str = "0200000000";
+const LAST_WINDOW: &str = "05000000000F";
+const WINDOW_BEYOND: &str = "050000000010";
 
-/// Tables that layouts and jobs are mixed in, small and full, and one that has jobs alone.
+/// Tables that layouts and jobs are mixed in, small and full, one that has jobs alone, and those with
+/// windows.
 pub fn bases() -> Vec<Base> {
     use Fault::{Beyond, NoFrame, NoLayout, Upward, WrongParent};
-    let full_of_jobs = |name, first| Base {
+    use Fault::{WindowBeyond, WindowFF, WindowedNoLayout, WindowedUpward};
+    let full_of_jobs = |name, first, job| Base {
         name,
-        head: [vec![first], vec![JOB; JOB_LIMIT - 1], vec![FIRST_LAYOUT]].concat(),
+        head: [vec![first], vec![job; JOB_LIMIT - 1], vec![FIRST_LAYOUT]].concat(),
         last: [LAYOUT; LAST],
-        beyond: JOB,
+        beyond: job,
         faults: &[NoFrame, Beyond, WrongParent],
         most: 2,
     };
@@ -66,20 +78,39 @@ pub fn bases() -> Vec<Base> {
             head: vec!["0200010001", FIRST_LAYOUT, LAYOUT, "0400000001"],
             last: ["010001", "0200000002", "0400010001"],
             beyond: "",
-            faults: &[NoFrame, WrongParent, NoLayout, Upward],
+            faults: &[NoFrame, WrongParent, NoLayout, Upward, WindowBeyond],
             most: 3,
+        },
+        Base {
+            name: "small, with windows",
+            head: vec!["05000100010F", FIRST_LAYOUT, LAYOUT, "050000000100"],
+            last: ["010001", "050000000203", "0400010001"],
+            beyond: "",
+            faults: &[
+                NoFrame,
+                WrongParent,
+                WindowedNoLayout,
+                WindowedUpward,
+                WindowBeyond,
+                WindowFF,
+            ],
+            most: 2,
         },
         Base {
             name: "full of layouts",
             head: [vec![JOB, FIRST_LAYOUT, JOB], vec![LAYOUT; LAYOUT_LIMIT - 1]].concat(),
             last: ["0200000003", "0400010001", JOB],
             beyond: LAYOUT,
-            faults: &[NoFrame, Beyond, NoLayout, Upward],
+            faults: &[NoFrame, Beyond, NoLayout, Upward, WindowFF],
             most: 2,
         },
-        full_of_jobs("full of jobs", JOB),
-        full_of_jobs("full of jobs, the first without its layout", NO_LAYOUT),
-        full_of_jobs("full of jobs, the first upward", UPWARD),
+        full_of_jobs("full of jobs", JOB, JOB),
+        full_of_jobs("full of jobs, the first without its layout", NO_LAYOUT, JOB),
+        full_of_jobs("full of jobs, the first upward", UPWARD, JOB),
+        Base {
+            faults: &[Beyond, WindowBeyond],
+            ..full_of_jobs("full of jobs with windows", JOB, LAST_WINDOW)
+        },
         Base {
             name: "jobs alone",
             head: vec![JOB, "0400000000"],
@@ -92,7 +123,17 @@ pub fn bases() -> Vec<Base> {
 }
 
 const NO_LAYOUT: &str = "020000FFFE";
+const WINDOWED_NO_LAYOUT: &str = "050000FFFE01";
 const UPWARD: &str = "0200010000";
+const WINDOWED_UPWARD: &str = "05000100000F";
+
+/// The jobs that are refused at the end line.
+const WRONG_JOBS: [(&str, u16); 4] = [
+    (NO_LAYOUT, 5),
+    (WINDOWED_NO_LAYOUT, 5),
+    (UPWARD, 6),
+    (WINDOWED_UPWARD, 6),
+];
 
 /// A table with faults, each before the last line of that number.
 pub struct Case<'a> {
@@ -138,12 +179,16 @@ fn one_more(base: &Base, few: &[(usize, Fault)]) -> Vec<Vec<(usize, Fault)>> {
 }
 
 fn endings() -> Vec<(End, &'static [Late])> {
-    const AFTER: [&[Late]; 5] = [
+    const AFTER: [&[Late]; 9] = [
         &[],
         &[Late::Frame],
         &[Late::NoFrame],
         &[Late::Frame, Late::NoFrame],
         &[Late::NoFrame, Late::Frame],
+        &[Late::LastWindow],
+        &[Late::WindowBeyond],
+        &[Late::Frame, Late::WindowBeyond],
+        &[Late::WindowBeyond, Late::NoFrame],
     ];
     let ends = [End::Right, End::LayoutTooMany, End::JobTooFew];
     let written = ends
@@ -171,10 +216,10 @@ impl Written {
         self.bytes.extend(format!("{line}\n").bytes());
         match line.get(..2) {
             Some("01") => self.layouts += 1,
-            Some("02" | "04") => self.jobs += 1,
+            Some("02" | "04" | "05") => self.jobs += 1,
             _ => {}
         }
-        for (wrong, number) in [(NO_LAYOUT, 5), (UPWARD, 6)] {
+        for (wrong, number) in WRONG_JOBS {
             if line == wrong {
                 self.waiting.push(self.here(number));
             }
@@ -197,7 +242,11 @@ impl Written {
             Fault::Beyond => (beyond, Some(3)),
             Fault::WrongParent => ("01FFFE", Some(4)),
             Fault::NoLayout => (NO_LAYOUT, None),
+            Fault::WindowedNoLayout => (WINDOWED_NO_LAYOUT, None),
             Fault::Upward => (UPWARD, None),
+            Fault::WindowedUpward => (WINDOWED_UPWARD, None),
+            Fault::WindowBeyond => (WINDOW_BEYOND, Some(9)),
+            Fault::WindowFF => ("050000FFFEFF", Some(9)),
         };
         self.line(line);
         if let Some(number) = number {
@@ -230,6 +279,8 @@ impl Written {
         let (line, number) = match late {
             Late::Frame => (JOB, 2),
             Late::NoFrame => ("", 1),
+            Late::LastWindow => (LAST_WINDOW, 2),
+            Late::WindowBeyond => (WINDOW_BEYOND, 9),
         };
         self.line(line);
         self.find(number);

@@ -1,9 +1,11 @@
 //! Tables made from seeds, whole and damaged: the same seed always makes the same case.
 
+pub mod borders;
 pub mod damage;
 pub mod faults;
 pub mod mixtures;
 pub mod tables;
+pub mod windows;
 
 /// A deterministic source of bits (splitmix64).
 pub struct Generator {

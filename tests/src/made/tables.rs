@@ -1,5 +1,6 @@
-//! Whole tables: trees of several shapes, and jobs on downward paths in them.
+//! Whole tables: trees of several shapes, and jobs on downward paths in them, solo or in any window.
 
+use super::windows::{any_spread, spread, windows, Spread};
 use super::Generator;
 use crate::reference::tree::ancestors;
 use crate::reference::{Table, ABSENT, JOB_LIMIT, LAYOUT_LIMIT};
@@ -83,6 +84,38 @@ pub fn table_of_size(size: Size, generator: &mut Generator) -> Table {
         *mark = u8::from(generator.one_in(solo_in));
     }
     raise_tops(&mut table, generator);
+    let windows = any_spread(generator);
+    spread(&mut table, windows, generator);
+    table
+}
+
+/// A table of each shape, with some solo jobs and jobs with top 0, its jobs spread over windows.
+pub fn tables_spread(windows: Spread) -> impl Iterator<Item = Table> {
+    SHAPES.into_iter().map(move |shape| {
+        let mut generator = Generator::new(1);
+        let size = Size {
+            layouts: 24,
+            jobs: 70,
+        };
+        let mut table = table_of_shape(shape, Reach::Any, size, &mut generator);
+        for mark in table.marks.iter_mut().step_by(7) {
+            *mark = 1;
+        }
+        raise_tops(&mut table, &mut generator);
+        spread(&mut table, windows, &mut generator);
+        table
+    })
+}
+
+/// At most eight jobs, so that every rival can be tried, in at most three windows, solo ones too.
+pub fn table_for_search(generator: &mut Generator) -> Table {
+    let size = Size {
+        layouts: generator.between(1, 9),
+        jobs: generator.between(2, 8),
+    };
+    let mut table = table_of_size(size, generator);
+    let few = Spread::Any(generator.between(1, 3));
+    table.windows = windows(few, size.jobs, generator);
     table
 }
 
@@ -102,7 +135,7 @@ fn raise_tops(table: &mut Table, generator: &mut Generator) {
     }
 }
 
-/// A table without solo jobs.
+/// A table without solo jobs, all in window 0.
 pub fn table_of_shape(shape: Shape, reach: Reach, size: Size, generator: &mut Generator) -> Table {
     let mut table = Table {
         parents: parents(shape, size.layouts, generator),

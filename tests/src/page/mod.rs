@@ -113,7 +113,7 @@ fn controls() -> Element {
         ))
 }
 
-/// The tree and the running order as two drawings, so that a narrow window sets one below the
+/// The tree and the running order as two drawings, so that a narrow screen sets one below the
 /// other.
 fn pictures(planned: &Planned, options: &Options) -> Element {
     let corner = Point { x: EDGE, y: EDGE };

@@ -27,8 +27,10 @@ fn step(planned: &Planned, turn: &Turn, count: usize) -> Element {
         Some(layout) => format!("highest layout {layout}"),
         None => "no highest layout".to_string(),
     };
+    let window = planned.window(turn.job);
+    let window = window.map_or(String::new(), |window| format!(", window {window}"));
     let path = format!(
-        "Place {}; top {top}, bottom {bottom}, {highest}.",
+        "Place {}; top {top}, bottom {bottom}, {highest}{window}.",
         turn.place
     );
     let entry = element("li")
@@ -73,7 +75,7 @@ fn facts(planned: &Planned, turn: &Turn) -> Vec<(String, String)> {
         Event::Solo => vec![("Lookup", "none: solo, runs alone".to_string())],
         Event::Bare => vec![("Lookup", BARE.to_string())],
         Event::TakenBy(job) => vec![("Lookup", format!("none: taken by job {job}"))],
-        Event::Lookup(lookup) => lookup_facts(planned, lookup),
+        Event::Lookup(lookup) => lookup_facts(planned, turn.job, lookup),
     };
     facts.insert(0, ("Reached", reached));
     facts.push(("Pass", pass_words(pass)));
@@ -86,7 +88,7 @@ fn facts(planned: &Planned, turn: &Turn) -> Vec<(String, String)> {
     facts
 }
 
-fn lookup_facts(planned: &Planned, lookup: &Lookup) -> Vec<(&'static str, String)> {
+fn lookup_facts(planned: &Planned, job: usize, lookup: &Lookup) -> Vec<(&'static str, String)> {
     let found = match lookup.found {
         Some((other, _)) => format!(
             "job {other}, at place {}: the first in the running order that does",
@@ -94,8 +96,10 @@ fn lookup_facts(planned: &Planned, lookup: &Lookup) -> Vec<(&'static str, String
         ),
         None => "nobody".to_string(),
     };
+    let shelf = planned.window(job);
+    let shelf = shelf.map_or(String::new(), |window| format!(" of window {window}"));
     let asks = format!(
-        "{}; {}",
+        "{}; {}{shelf}",
         range("leaf", "leaves", lookup.leaves),
         range("slot", "slots", lookup.slots)
     );
@@ -142,6 +146,7 @@ fn reason(verdict: Verdict) -> String {
     match verdict {
         Verdict::Solo => "solo".to_string(),
         Verdict::Bare => "accepts layout 0 alone".to_string(),
+        Verdict::OtherWindow(window) => format!("in window {window}"),
         Verdict::TakenBy(job) => format!("taken by job {job}"),
         Verdict::HadItsTurn => "had its turn".to_string(),
         Verdict::NotReached(depth) => format!("not reached yet: its bottom is at depth {depth}"),

@@ -1,4 +1,4 @@
-//! The page in a browser: driven by keys, buttons and finger in a narrow and a wide window, and
+//! The page in a browser: driven by keys, buttons and finger in a narrow and a wide frame, and
 //! printed. The pages stand in frames of one document, whose script acts on them and writes down what
 //! they show.
 

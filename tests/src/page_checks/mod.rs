@@ -4,6 +4,7 @@ pub mod bakehouse;
 pub mod bare_sheet;
 pub mod both_ends;
 pub mod driving;
+pub mod windows;
 
 use crate::page::{page, DOCTYPE};
 use crate::picture::answer::product_answer;
@@ -62,6 +63,7 @@ pub fn holds_turns(table: &Table) -> Outcome {
     let plan = plan_of(table);
     for (turn, words) in turns(table).iter().zip(&words) {
         tells(turn, words, order.len())?;
+        tells_window(table, turn, words)?;
         tells_pass(turn, words, &plan)?;
     }
     Ok(())
@@ -78,6 +80,17 @@ fn tells_pass(turn: &Turn, words: &str, plan: &Plan) -> Outcome {
     same(words, words.contains(&pass), true)
 }
 
+/// A turn's window, and that of the slots asked for, where some job is in another than window 0.
+fn tells_window(table: &Table, turn: &Turn, words: &str) -> Outcome {
+    let shown = table.windows.iter().any(|&window| window != 0);
+    let window = table.windows[turn.job];
+    let own = format!(", window {window}. Reached");
+    same(words, words.contains(&own), shown)?;
+    let asked = format!(" of window {window} Lookup visits");
+    let asks = matches!(turn.event, Event::Lookup(_));
+    same(words, words.contains(&asked), shown && asks)
+}
+
 /// A turn's words: whose it is, what happens, and with a lookup a reason for each other job.
 fn tells(turn: &Turn, words: &str, jobs: usize) -> Outcome {
     let heading = format!("Turn {} of {jobs}: job {} ", turn.place + 1, turn.job);
@@ -89,12 +102,12 @@ fn tells(turn: &Turn, words: &str, jobs: usize) -> Outcome {
         Event::Lookup(lookup) => format!("visits {} cell", lookup.visits),
     };
     same(words, words.contains(&event), true)?;
-    let highest = turn
-        .highest
-        .map_or("no highest layout.".to_string(), |layout| {
-            format!("highest layout {layout}.")
-        });
-    same(words, words.contains(&highest), true)?;
+    let highest = match turn.highest {
+        Some(layout) => format!(" highest layout {layout}"),
+        None => " no highest layout".to_string(),
+    };
+    let said = ['.', ','].map(|end| words.contains(&format!("{highest}{end}")));
+    same(words, said.contains(&true), true)?;
     let others = words
         .split_once("The other jobs")
         .map_or("", |(_, others)| others);

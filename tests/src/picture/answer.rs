@@ -3,12 +3,12 @@
 
 use super::planned::Planned;
 use crate::library;
-use crate::plan_checks::Planner;
-use crate::reference::plan::{plan_of, running_order, Plan};
+use crate::plan_checks::{plan_by, Planner};
+use crate::reference::plan::{plan, running_order, Room};
 use crate::reference::rivals::{keeps_rules, pairs_of};
 use crate::reference::run;
 use crate::reference::table::read;
-use crate::reference::{Refusal, Table, JOB_LIMIT, LAYOUT_LIMIT, OUTPUT_BYTES, WORK_CELLS};
+use crate::reference::{Refusal, Table, JOB_LIMIT, LAYOUT_LIMIT, OUTPUT_BYTES};
 use crate::wrong_planners::wrong_planners;
 
 pub enum Answer {
@@ -31,8 +31,9 @@ pub fn product_answer(bytes: &[u8]) -> Result<Answer, String> {
 
 /// A table with the plan of some planner, or how the second implementation differs.
 pub fn planned(table: Table, planner: Planner) -> Result<Planned, String> {
-    let plan = plan_by(planner, &table).map_err(|refusal| format!("refused: {refusal:?}"))?;
-    agree("plan", &plan, &plan_of(&table))?;
+    let answer = plan_by(planner, &table);
+    agree("plan", &answer, &plan(&table, Room::exact(&table)))?;
+    let plan = answer.map_err(|refusal| format!("refused: {refusal:?}"))?;
     let order = running_order(&table);
     Ok(Planned::new(table, plan, order))
 }
@@ -58,6 +59,7 @@ fn read_by_product(bytes: &[u8]) -> Result<Table, Refusal> {
         tops: vec![0; JOB_LIMIT],
         bottoms: vec![0; JOB_LIMIT],
         marks: vec![0; JOB_LIMIT],
+        windows: vec![0; JOB_LIMIT],
     };
     let counts = library::read(
         bytes,
@@ -65,25 +67,15 @@ fn read_by_product(bytes: &[u8]) -> Result<Table, Refusal> {
         &mut table.tops,
         &mut table.bottoms,
         &mut table.marks,
+        &mut table.windows,
     )?;
-    table.parents.truncate(usize::from(counts.layouts));
-    table.tops.truncate(usize::from(counts.jobs));
-    table.bottoms.truncate(usize::from(counts.jobs));
-    table.marks.truncate(usize::from(counts.jobs));
+    let (layouts, jobs) = (usize::from(counts.layouts), usize::from(counts.jobs));
+    table.parents.truncate(layouts);
+    table.tops.truncate(jobs);
+    table.bottoms.truncate(jobs);
+    table.marks.truncate(jobs);
+    table.windows.truncate(jobs);
     Ok(table)
-}
-
-fn plan_by(planner: Planner, table: &Table) -> Result<Plan, Refusal> {
-    let mut partners = vec![0; table.jobs()];
-    let (mut uppers, mut printed) = (partners.clone(), partners.clone());
-    let mut work = vec![0; WORK_CELLS];
-    let totals = planner(table, &mut partners, &mut uppers, &mut printed, &mut work)?;
-    Ok(Plan {
-        partners,
-        uppers,
-        printed,
-        totals,
-    })
 }
 
 fn agree<T: PartialEq + ?Sized>(name: &str, product: &T, second: &T) -> Result<(), String> {

@@ -61,10 +61,45 @@ fn plate(number: usize, area: Area) -> [Element; 2] {
 /// A job's bar or chip, in a group that is marked with the class given.
 pub fn job_shape(planned: &Planned, job: usize, area: Area, mark: &str) -> Element {
     let role = planned.role(job);
-    shape(role, area, mark)
+    let shape = shape(role, area, mark)
         .with("data-job", job)
-        .with("data-in", planned.pass_of(job).number)
-        .holding_all(plate(job, area))
+        .with("data-in", planned.pass_of(job).number);
+    let shape = match planned.window(job) {
+        Some(window) => shape.with("data-window", window),
+        None => shape,
+    };
+    shape.holding_all(plate(job, area))
+}
+
+/// The height that a window's tag takes under the number of a job.
+pub const TAG: i32 = 14;
+
+/// The window of a job on a tag, the middle of its upper end given. It may be wider than a bar, but not
+/// than from bar to bar.
+pub fn tag(window: u8, at: Point) -> Element {
+    let words = format!("w{window}");
+    let width = DIGIT * words.len() as i32 + 1;
+    let area = Area {
+        x: at.x - width / 2,
+        y: at.y,
+        width,
+        height: TAG - 1,
+    };
+    group("tag")
+        .holding(
+            rectangle("plate", area)
+                .with("rx", 2)
+                .with("stroke", "#595959"),
+        )
+        .holding(text("number small middle", at.shifted(0, 10), words))
+}
+
+/// Where the tag of a bar stands: under the plate of its number.
+pub fn below_plate(area: Area) -> Point {
+    Point {
+        x: area.x + area.width / 2,
+        y: area.y + PLATE_HEIGHT + 4,
+    }
 }
 
 /// A chip without a number.

@@ -1,7 +1,7 @@
 //! What the shapes of a picture mean, in one or more lines under it. Only what the picture holds is
 //! explained.
 
-use super::chips::{badge, dashed_badge, sample, CHIP_HEIGHT};
+use super::chips::{badge, dashed_badge, sample, tag, CHIP_HEIGHT};
 use super::markup::Element;
 use super::planned::{Planned, Role};
 use super::shapes::{circle, group, line, rectangle, text, Area, Panel, Point};
@@ -38,6 +38,7 @@ const SOLO: Entry = (
 );
 const RUNG: Entry = (rung_sample, "pass with its number: layout printed");
 const BAREST: Entry = (barest_sample, "dashed: the barest layout that does");
+const WINDOW: Entry = (window_sample, "w1: the job is in window 1");
 
 /// The entries of a picture with the tree, or of the passes alone.
 pub fn entries(planned: &Planned, with_tree: bool) -> Vec<Entry> {
@@ -66,6 +67,9 @@ pub fn entries(planned: &Planned, with_tree: bool) -> Vec<Entry> {
     }
     if with_tree && planned.has_barer() {
         entries.push(BAREST);
+    }
+    if with_tree && planned.has_windows() {
+        entries.push(WINDOW);
     }
     entries
 }
@@ -114,6 +118,10 @@ fn rung_sample(at: Point) -> Element {
         .holding(line("rung", point(8), point(SAMPLE - 6)))
         .holding(circle("dot", point(SAMPLE - 6), 5))
         .holding_all(badge(1, point(9)))
+}
+
+fn window_sample(at: Point) -> Element {
+    group("sample").holding(tag(1, at.shifted(SAMPLE / 2, -6)))
 }
 
 fn barest_sample(at: Point) -> Element {

@@ -34,8 +34,8 @@ pub fn draw(planned: &Planned, at: Point, cut: Option<usize>) -> Panel {
 
 /// The width of a column: that of the longest row.
 fn column(planned: &Planned) -> i32 {
-    let partners = planned.passes.iter().filter_map(|pass| pass.partner);
-    let widths = partners.map(|partner| LAYOUTS + text_width(&partner.layouts()) + GAP);
+    let words = planned.passes.iter().filter_map(|pass| planned.words(pass));
+    let widths = words.map(|words| LAYOUTS + text_width(&words) + GAP);
     widths.max().unwrap_or(0).max(LEAST_COLUMN)
 }
 
@@ -60,12 +60,13 @@ fn row(planned: &Planned, pass: &Pass, corner: Point, mark: &str) -> Element {
         .with("data-pass", pass.number)
         .holding(text("number faint right", at(NUMBER - 8), pass.number))
         .holding(lane(pass.opener, NUMBER));
-    match pass.partner {
+    let row = match pass.partner {
         Some(partner) => row
             .with("data-layout", partner.printed)
             .with("data-upper", partner.upper)
-            .holding(lane(partner.job, NUMBER + CHIP + 4))
-            .holding(text("", at(LAYOUTS), partner.layouts())),
+            .holding(lane(partner.job, NUMBER + CHIP + 4)),
         None => row,
-    }
+    };
+    let words = planned.words(pass);
+    row.holding_all(words.map(|words| text("", at(LAYOUTS), words)))
 }

@@ -18,7 +18,11 @@ const JOB: i32 = 66;
 const PATH: i32 = 128;
 const HIGHEST: i32 = 256;
 const DEPTH: i32 = 320;
+const WINDOW: i32 = 384;
 const ARCS: i32 = 352;
+/// The width of the column of windows, where they are shown, and of a window said of a job alone.
+const WINDOW_COLUMN: i32 = 64;
+const WINDOW_SAID: i32 = 84;
 /// From arc to arc, and the room that arcs take at least.
 const ARC: i32 = 10;
 const LEAST_ARCS: i32 = 50;
@@ -38,7 +42,7 @@ pub fn draw(planned: &Planned, at: Point, cut: Option<usize>) -> Panel {
         cut,
         arcs: arc_tracks(planned),
     };
-    let (width, height) = (column.alone() + ALONE - at.x, column.end() - at.y);
+    let (width, height) = (column.right() - at.x, column.end() - at.y);
     let drawing = group("order")
         .holding(column.headings())
         .holding(column.leaders())
@@ -101,17 +105,37 @@ impl Column<'_> {
         }
     }
 
+    /// A width that is taken only where windows are shown.
+    fn if_windows(&self, width: i32) -> i32 {
+        match self.planned.has_windows() {
+            true => width,
+            false => 0,
+        }
+    }
+
+    /// The left end of the arcs, from that of the panel.
+    fn arcs_from(&self) -> i32 {
+        ARCS + self.if_windows(WINDOW_COLUMN)
+    }
+
     /// The left end of the passes.
     fn pairs(&self) -> i32 {
         let arcs = (count(&self.arcs) + 2) * ARC;
-        self.at.x + ARCS + arcs.max(LEAST_ARCS)
+        self.at.x + self.arcs_from() + arcs.max(LEAST_ARCS)
     }
 
     /// The left end of the jobs that run alone.
     fn alone(&self) -> i32 {
-        let partners = self.planned.passes.iter().filter_map(|pass| pass.partner);
-        let widths = partners.map(|partner| text_width(&partner.layouts()) + GAP);
+        let pairs = self.planned.passes.iter();
+        let words = pairs
+            .filter(|pass| pass.partner.is_some())
+            .filter_map(|pass| self.planned.words(pass));
+        let widths = words.map(|words| text_width(&words) + GAP);
         self.pairs() + LAYOUTS + widths.max().unwrap_or(0).max(LEAST_SAID)
+    }
+
+    fn right(&self) -> i32 {
+        self.alone() + ALONE + self.if_windows(WINDOW_SAID)
     }
 
     fn headings(&self) -> Element {
@@ -125,6 +149,11 @@ impl Column<'_> {
             .holding(heading("", PATH, "top–bottom"))
             .holding(heading("middle", HIGHEST, "highest"))
             .holding(heading("middle", DEPTH, "depth"))
+            .holding_all(
+                self.planned
+                    .has_windows()
+                    .then(|| heading("middle", WINDOW, "window")),
+            )
             .holding(heading(
                 "",
                 self.pairs() - self.at.x - BADGE,
@@ -133,8 +162,8 @@ impl Column<'_> {
             .holding(heading("", self.alone() - self.at.x, "alone"))
     }
 
-    /// Each place with its job, the ends of its path, its highest layout other than 0, and the depth
-    /// of that, which the order goes by.
+    /// Each place with its job, the ends of its path, its highest layout other than 0, the depth of
+    /// that, which the order goes by, and the job's window where windows are shown.
     fn places(&self) -> Element {
         let rows = self.planned.order.iter().enumerate();
         group("places").holding_all(rows.map(|(place, &job)| self.place(place, job)))
@@ -156,9 +185,10 @@ impl Column<'_> {
         let whole = Area {
             x: self.at.x,
             y: row - ROW / 2,
-            width: ARCS - 8,
+            width: self.arcs_from() - 8,
             height: ROW,
         };
+        let window = self.planned.window(job);
         group("place")
             .with("data-place", place)
             .with("data-highest", &highest)
@@ -168,6 +198,7 @@ impl Column<'_> {
             .holding(said("", PATH, path))
             .holding(said("middle", HIGHEST, highest))
             .holding(said("middle", DEPTH, depth))
+            .holding_all(window.map(|window| said("middle", WINDOW, window.to_string())))
     }
 
     fn chip(&self, right: i32, row: i32) -> Area {
@@ -196,7 +227,8 @@ impl Column<'_> {
         }
     }
 
-    /// Two lanes of the press side by side, the layout that both print on, and the barest that does.
+    /// Two lanes of the press side by side, the layout that both print on, the barest that does, and
+    /// their window.
     fn pair(&self, marked: Element, pass: &Pass, partner: Partner) -> Element {
         let row = self.row(self.planned.place(pass.opener));
         let left = self.pairs() - self.at.x + LANES;
@@ -216,12 +248,18 @@ impl Column<'_> {
             .holding_all(badge(pass.number, self.point(left - LANES, row)))
             .holding(lane(pass.opener, left))
             .holding(lane(partner.job, left + CHIP + 4))
-            .holding(text("said", said, partner.layouts()))
+            .holding_all(self.words(pass, said))
+    }
+
+    fn words(&self, pass: &Pass, at: Point) -> Option<Element> {
+        let words = self.planned.words(pass);
+        words.map(|words| text("said", at, words))
     }
 
     fn single(&self, marked: Element, pass: &Pass) -> Element {
         let row = self.row(self.planned.place(pass.opener));
         let left = self.alone() - self.at.x;
+        let said = self.point(left + ALONE + 4, row + 5);
         marked
             .holding_all(badge(pass.number, self.point(left + BADGE, row)))
             .holding(job_shape(
@@ -230,6 +268,7 @@ impl Column<'_> {
                 self.chip(left + LANES + 6, row),
                 "lane",
             ))
+            .holding_all(self.words(pass, said))
     }
 
     /// From the jobs that run alone to their passes.
@@ -242,7 +281,7 @@ impl Column<'_> {
         group("leaders").holding_all(alone.map(|pass| {
             let row = self.row(self.planned.place(pass.opener));
             let to = self.point(self.alone() - self.at.x - 4, row);
-            line("leader", self.point(ARCS, row), to).with("data-pass", pass.number)
+            line("leader", self.point(self.arcs_from(), row), to).with("data-pass", pass.number)
         }))
     }
 
@@ -260,7 +299,7 @@ impl Column<'_> {
             self.row(self.planned.place(opener)),
             self.row(self.planned.place(other)),
         );
-        let from = self.at.x + ARCS;
+        let from = self.at.x + self.arcs_from();
         let turn = from + (track as i32 + 1) * ARC;
         let to = self.pairs() - BADGE;
         let path = format!("M{from},{lower} H{turn} V{upper} M{from},{upper} H{to}");

@@ -138,6 +138,26 @@ impl Planned {
         usize::from(self.tree.firsts[usize::from(self.table.bottoms[job])])
     }
 
+    /// Whether windows are shown: only where some job is in another than window 0.
+    pub fn has_windows(&self) -> bool {
+        self.table.windows.iter().any(|&window| window != 0)
+    }
+
+    /// The window of a job, where windows are shown.
+    pub fn window(&self, job: usize) -> Option<u8> {
+        self.has_windows().then(|| self.table.windows[job])
+    }
+
+    /// What is said beside the jobs of a pass: the layouts of a pair, and the window where windows are
+    /// shown.
+    pub fn words(&self, pass: &Pass) -> Option<String> {
+        let window = self.window(pass.opener);
+        let window = window.map(|window| format!("window {window}"));
+        let layouts = pass.partner.map(|partner| partner.layouts());
+        let words: Vec<String> = layouts.into_iter().chain(window).collect();
+        (!words.is_empty()).then(|| words.join(", "))
+    }
+
     /// Whether all jobs of a pass stand in front of a cut.
     pub fn is_in_front(&self, pass: &Pass, cut: usize) -> bool {
         pass.jobs().all(|job| self.place(job) < cut)

@@ -21,6 +21,7 @@ pub fn words(refusal: Refusal) -> &'static str {
         5 => "a top or bottom that is no layout",
         6 => "a bottom not at or below its top",
         7 => "wrong counts at the end, or no end",
+        9 => "a window above 0F",
         _ => "a lent buffer is too small",
     }
 }

@@ -1,11 +1,11 @@
 //! *Plan* by the quadratic greedy rule (document 01, "The tree and the running order" and "What
-//! each operation turns away"): in running order each free job takes the first free later job that
-//! shares with it.
+//! each operation turns away"; 2026-05, printing windows): in running order each free job takes the
+//! first free later job of its window that shares with it.
 
 use super::paths::{deepest_shared, depth_of_highest, highest_shared, is_bare, own_paths, Path};
 use super::tree::{is_ancestor, refuse_wrong_parents};
-use super::visits::{lookup_visits, slot_leaves};
-use super::{refuse, Refusal, Table, ABSENT, JOB_LIMIT, LAYOUT_LIMIT, WORK_CELLS};
+use super::visits::Slots;
+use super::{refuse, Refusal, Table, ABSENT, JOB_LIMIT, LAYOUT_LIMIT, WINDOW_LIMIT, WORK_CELLS};
 
 /// What *Plan* gives back.
 #[derive(Clone, Copy, Debug, PartialEq, Eq)]
@@ -52,6 +52,18 @@ pub struct Room {
     pub work: usize,
 }
 
+impl Room {
+    /// What *Plan* asks for.
+    pub fn exact(table: &Table) -> Room {
+        Room {
+            partners: table.jobs(),
+            uppers: table.jobs(),
+            printed: table.jobs(),
+            work: WORK_CELLS,
+        }
+    }
+}
+
 /// *Plan*, as to answer and numbers.
 pub fn plan(table: &Table, room: Room) -> Result<Plan, Refusal> {
     refuse_lengths(table, room)?;
@@ -60,7 +72,9 @@ pub fn plan(table: &Table, room: Room) -> Result<Plan, Refusal> {
     }
     refuse_wrong_parents(&table.parents)?;
     for job in 0..table.jobs() {
-        refuse_wrong_job(table, job)?;
+        if let Some(number) = job_fault(table, job) {
+            return refuse(number, job);
+        }
     }
     Ok(plan_of(table))
 }
@@ -68,7 +82,8 @@ pub fn plan(table: &Table, room: Room) -> Result<Plan, Refusal> {
 /// Refusal 8: unequal lengths, short results, few work cells.
 fn refuse_lengths(table: &Table, room: Room) -> Result<(), Refusal> {
     let jobs = table.tops.len();
-    let equal = table.bottoms.len() == jobs && table.marks.len() == jobs;
+    let columns = [table.bottoms.len(), table.marks.len(), table.windows.len()];
+    let equal = columns.iter().all(|&column| column == jobs);
     let results = [room.partners, room.uppers, room.printed];
     let long = results.iter().all(|&result| jobs <= result);
     if equal && long && WORK_CELLS <= room.work {
@@ -78,17 +93,18 @@ fn refuse_lengths(table: &Table, room: Room) -> Result<(), Refusal> {
     }
 }
 
-/// Refusal 5, a top or bottom that is no layout; 6, a bottom not at or below its top.
-fn refuse_wrong_job(table: &Table, job: usize) -> Result<(), Refusal> {
+/// The number of a job's refusal: 5, a top or bottom that is no layout; 6, a bottom not at or below its
+/// top; 9, a window beyond the last one.
+pub fn job_fault(table: &Table, job: usize) -> Option<u16> {
     let (top, bottom) = (table.tops[job], table.bottoms[job]);
     let is_layout = |number: u16| usize::from(number) < table.layouts();
     if !is_layout(top) || !is_layout(bottom) {
-        return refuse(5, job);
+        return Some(5);
     }
     if !is_ancestor(&table.parents, top, bottom) {
-        return refuse(6, job);
+        return Some(6);
     }
-    Ok(())
+    (WINDOW_LIMIT <= usize::from(table.windows[job])).then_some(9)
 }
 
 /// The running order: the deeper highest layout first, equal depths by smaller job number. A bare
@@ -110,12 +126,9 @@ pub fn asks_nobody(table: &Table, job: usize) -> bool {
 pub fn plan_of(table: &Table) -> Plan {
     let order = running_order(table);
     let matching = greedy_matching(table, &order, &own_paths(table));
-    let leaves = slot_leaves(table, &order);
-    let visits = matching
-        .lookups
-        .iter()
-        .map(|&job| lookup_visits(&leaves, job))
-        .sum();
+    let slots = Slots::new(table, &order);
+    let lookups = matching.lookups.iter();
+    let visits = lookups.map(|&job| slots.visits(job)).sum();
     with_totals(table, matching.partners, visits)
 }
 
@@ -134,10 +147,10 @@ fn greedy_matching(table: &Table, order: &[usize], paths: &[Path]) -> Matching {
         }
         lookups.push(job);
         let free = |other: usize| !table.solo(other) && partners[other].is_none();
-        let found = order[rank + 1..]
-            .iter()
-            .copied()
-            .find(|&other| free(other) && paths[job].meets(&paths[other]));
+        let fits = |&other: &usize| {
+            free(other) && table.same_window(job, other) && paths[job].meets(&paths[other])
+        };
+        let found = order[rank + 1..].iter().copied().find(fits);
         if let Some(other) = found {
             partners[job] = Some(other);
             partners[other] = Some(job);

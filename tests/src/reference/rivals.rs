@@ -1,5 +1,5 @@
-//! Rival plans (document 01, "Rival plans and the cut"): their rules, and by exhaustive search how
-//! many pairs one can have in front of a cut.
+//! Rival plans (document 01, "Rival plans and the cut"; 2026-05: they keep the windows too): their
+//! rules, and by exhaustive search how many pairs one can have in front of a cut.
 
 use super::paths::{own_paths, Path};
 use super::plan::running_order;
@@ -32,7 +32,9 @@ pub fn keeps_rules(table: &Table, pairs: &[Pair]) -> Result<(), String> {
             return Err(format!("job {job} is paired with itself"));
         }
         if !may_pair(table, &paths, job, other) {
-            return Err(format!("jobs {job} and {other} are solo or do not share"));
+            return Err(format!(
+                "jobs {job} and {other} are solo, of two windows, or do not share"
+            ));
         }
         for member in [job, other] {
             if std::mem::replace(&mut paired[member], true) {
@@ -43,9 +45,11 @@ pub fn keeps_rules(table: &Table, pairs: &[Pair]) -> Result<(), String> {
     Ok(())
 }
 
-/// Neither is solo, and they share: a rival's pairs do not print on layout 0 either.
+/// Neither is solo, they are in one window, and they share: a rival's pairs do not print on layout 0
+/// either.
 fn may_pair(table: &Table, paths: &[Path], job: usize, other: usize) -> bool {
-    !table.solo(job) && !table.solo(other) && paths[job].meets(&paths[other])
+    let solo = table.solo(job) || table.solo(other);
+    !solo && table.same_window(job, other) && paths[job].meets(&paths[other])
 }
 
 /// How many pairs lie in front of each cut, from cut 0 to cut M.

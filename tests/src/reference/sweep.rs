@@ -1,12 +1,13 @@
-//! The sweep turn by turn (document 01, "The shelf and its cells"), by its rule and without a
-//! segment tree: whose turn it is, what the turn asks for, whom it finds, and why each of the other
-//! jobs does not do. The plan of this implementation is made without it and compared with it.
+//! The sweep turn by turn (document 01, "The shelf and its cells"; 2026-05, a shelf for each window):
+//! whose turn it is, what the turn asks for, whom it finds, and why each of the other jobs does not do.
+//! The plan of this implementation is made without it and compared with it.
 
 use super::paths::{deepest_shared, depth_of_highest, highest, is_bare, own_paths};
-use super::plan::{running_order, with_totals, Plan};
+use super::plan::{asks_nobody, running_order, with_totals, Plan};
+use super::shelf::Shelf;
 use super::tree::{settled, Settled};
-use super::visits::{lookup_visits, slot_leaves};
 use super::Table;
+use std::collections::BTreeMap;
 
 /// One turn of the sweep.
 #[derive(Clone, Debug, PartialEq, Eq)]
@@ -40,7 +41,8 @@ pub enum Event {
 
 #[derive(Clone, Debug, PartialEq, Eq)]
 pub struct Lookup {
-    /// First and last leaf of the job's highest layout, and the first and last slot there.
+    /// First and last leaf of the job's highest layout, and the first and last slot there on the shelf
+    /// of its window.
     pub leaves: (usize, usize),
     pub slots: (usize, usize),
     pub visits: u32,
@@ -55,6 +57,8 @@ pub struct Lookup {
 pub enum Verdict {
     Solo,
     Bare,
+    /// It is in this window, and the asking job in another.
+    OtherWindow(u8),
     TakenBy(usize),
     HadItsTurn,
     /// The depth of its bottom, which the sweep has not reached.
@@ -68,15 +72,20 @@ pub enum Verdict {
 
 /// The turns of a table that is not refused, by place.
 pub fn turns(table: &Table) -> Vec<Turn> {
-    let order = running_order(table);
     let mut sweep = Sweep {
         table,
         tree: settled(&table.parents),
+        order: running_order(table),
+        shelves: BTreeMap::new(),
+        was_reached: vec![false; table.jobs()],
         taken_by: vec![None; table.jobs()],
         partners: vec![None; table.jobs()],
         made: 0,
-        order,
     };
+    for window in table.windows_used() {
+        let shelf = sweep.empty_shelf(window);
+        sweep.shelves.insert(window, shelf);
+    }
     (0..table.jobs()).map(|place| sweep.turn(place)).collect()
 }
 
@@ -104,13 +113,29 @@ struct Sweep<'a> {
     table: &'a Table,
     tree: Settled,
     order: Vec<usize>,
-    /// By job: the earlier job that took it, and its partner whichever is earlier.
+    /// By window.
+    shelves: BTreeMap<u8, Shelf>,
+    /// By job: whether it was put on its shelf, the earlier job that took it, and its partner whichever
+    /// is earlier.
+    was_reached: Vec<bool>,
     taken_by: Vec<Option<usize>>,
     partners: Vec<Option<usize>>,
     made: usize,
 }
 
 impl Sweep<'_> {
+    /// The shelf of a window before anything is put on it.
+    fn empty_shelf(&self, window: u8) -> Shelf {
+        let jobs = self.order.iter().copied();
+        let own = jobs.filter(|&job| self.table.windows[job] == window);
+        Shelf::new(own.map(|job| (job, self.leaf(job))))
+    }
+
+    fn shelf_of(&mut self, job: usize) -> &mut Shelf {
+        let shelf = self.shelves.get_mut(&self.table.windows[job]);
+        shelf.expect("a window with a job has a shelf")
+    }
+
     fn turn(&mut self, place: usize) -> Turn {
         let job = self.order[place];
         let event = self.event(place, job);
@@ -139,8 +164,11 @@ impl Sweep<'_> {
         if let Some(earlier) = self.taken_by[job] {
             return Event::TakenBy(earlier);
         }
+        self.put_reached(depth_of_highest(self.table, job));
+        self.shelf_of(job).take(job);
         let lookup = self.lookup(place, asked);
         if let Some((other, _)) = lookup.found {
+            self.shelf_of(other).take(other);
             self.taken_by[other] = Some(job);
             self.partners[other] = Some(job);
             self.partners[job] = Some(other);
@@ -148,18 +176,32 @@ impl Sweep<'_> {
         Event::Lookup(lookup)
     }
 
-    /// The lookup of the job at a place, which asks for the span of its highest layout.
-    fn lookup(&self, place: usize, asked: u16) -> Lookup {
+    /// Puts the jobs whose bottoms are at a depth or deeper on the shelves of their windows; never those
+    /// that run alone in any case.
+    fn put_reached(&mut self, depth: usize) {
+        for (place, job) in self.order.clone().into_iter().enumerate() {
+            let reached = depth <= self.depth_of_bottom(job) && !asks_nobody(self.table, job);
+            if reached && !std::mem::replace(&mut self.was_reached[job], true) {
+                self.shelf_of(job).put(job, place);
+            }
+        }
+    }
+
+    /// The lookup of the job at a place, which asks for the span of its highest layout on the shelf of
+    /// its window. Its own slot is among those asked for.
+    fn lookup(&mut self, place: usize, asked: u16) -> Lookup {
         let job = self.order[place];
         let leaves = self.span(asked);
-        let suits = |other: &usize| self.hindrance(place, leaves, *other).is_none();
-        let found = self.order[place + 1..].iter().copied().find(suits);
+        let shelf = self.shelf_of(job);
+        let slots = shelf.slots_of(leaves);
+        let answer = shelf.lookup(&slots);
+        let found = answer.place.map(|place| self.order[place]);
         let others = (0..self.table.jobs()).filter(|&other| other != job);
         let verdict = |other| (other, self.verdict(place, leaves, other, found));
         Lookup {
             leaves,
-            slots: self.slots(leaves),
-            visits: lookup_visits(&slot_leaves(self.table, &self.order), job),
+            slots: (slots.start, slots.end - 1),
+            visits: answer.visits,
             found: found.and_then(|other| Some((other, self.printed(job, other)?))),
             others: others.map(verdict).collect(),
         }
@@ -181,6 +223,9 @@ impl Sweep<'_> {
         }
         if is_bare(self.table, other) {
             return Some(Verdict::Bare);
+        }
+        if !self.table.same_window(self.order[place], other) {
+            return Some(Verdict::OtherWindow(self.table.windows[other]));
         }
         if let Some(earlier) = self.taken_by[other] {
             return Some(Verdict::TakenBy(earlier));
@@ -216,17 +261,6 @@ impl Sweep<'_> {
     fn span(&self, layout: u16) -> Span {
         let leaf = |leaves: &[u16]| usize::from(leaves[usize::from(layout)]);
         (leaf(&self.tree.firsts), leaf(&self.tree.lasts))
-    }
-
-    /// First and last slot whose leaf lies in the span, the asking job's own among them. Slots go by
-    /// leaf, so those before the span are as many as the jobs with smaller leaves.
-    fn slots(&self, (first, last): Span) -> (usize, usize) {
-        let jobs_where = |test: &dyn Fn(usize) -> bool| {
-            let jobs = 0..self.table.jobs();
-            jobs.filter(|&other| test(self.leaf(other))).count()
-        };
-        let before = jobs_where(&|leaf| leaf < first);
-        (before, jobs_where(&|leaf| leaf <= last) - 1)
     }
 
     fn leaf(&self, job: usize) -> usize {

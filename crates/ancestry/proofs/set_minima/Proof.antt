@@ -1,4 +1,4 @@
--- The loop has set all rows up to one, and goes on as long as the next has windows shorter than a row.
+-- The loop has set all rows up to one, and goes on as long as the next has blocks shorter than a row.
 use Prim.Native.Nat.{ℕ, suc, _-_, _<_}
 use mathlib.Core.Path.{_≡_}
 use lib.ListN.{length}

@@ -1,8 +1,8 @@
--- Two windows cover the leaves, and both are in one row.
+-- Two blocks cover the leaves, and both are in one row.
 use Prim.Native.Nat.{_-_}
 use mathlib.Core.Path.{_∙_}
 use lib.Count.{leading-le}
-use Rattle.ancestry.proofs.Rows.{bits-small, window-is, window-fits, row-fits, two-windows}
+use Rattle.ancestry.proofs.Rows.{bits-small, block-is, block-fits, row-fits, two-blocks}
 use native.Mathlib.Omega.{arith}
 use borrow.Author.Needs.{needs}
 use Rattle.ancestry.proofs.smallest_parent.Statement.{statement}
@@ -23,8 +23,8 @@ stride-of-requires c κs = (_, c .before .pre .1 .spanned)
 mul-row : tie.Need-mul-row
 mul-row c = rw (c .stride-of .ensures _ (c .before .before .pre .1 .spanned)) (omega (arith, row-fits _ _ _ (c .before .before .pre .1) _ _ (c .before .before .pre .2) (c .before .before .pre .3), c .before .before .good .1 .0 .0))
 
-shl-window : tie.Need-shl-window
-shl-window c = bits-small _ _ _ (c .before .before .pre .1) _ _ (c .before .before .pre .2) (c .before .before .pre .3)
+shl-block : tie.Need-shl-block
+shl-block c = bits-small _ _ _ (c .before .before .pre .1) _ _ (c .before .before .pre .2) (c .before .before .pre .3)
 
 add-t10 : tie.Need-add-t10
 add-t10 c = rw (c .stride-of .ensures _ (c .before .before .pre .1 .spanned)) (omega (arith, row-fits _ _ _ (c .before .before .pre .1) _ _ (c .before .before .pre .2) (c .before .before .pre .3), c .before .before .pre .2, c .before .before .pre .3, c .before .before .good .1 .0 .0))
@@ -39,7 +39,7 @@ add-t10-2 : tie.Need-add-t10-2
 add-t10-2 c = rw (c .before .stride-of .ensures _ (c .before .before .before .pre .1 .spanned)) (omega (arith, row-fits _ _ _ (c .before .before .before .pre .1) _ _ (c .before .before .before .pre .2) (c .before .before .before .pre .3), c .before .before .before .pre .3, c .before .before .before .good .1 .0 .0))
 
 sub-t12 : tie.Need-sub-t12
-sub-t12 c = omega (arith, window-is _ _ _ (c .before .before .before .pre .1) _ _ (c .before .before .before .pre .2) (c .before .before .before .pre .3), window-fits _ _ _ (c .before .before .before .pre .1) _ _ (c .before .before .before .pre .2) (c .before .before .before .pre .3))
+sub-t12 c = omega (arith, block-is _ _ _ (c .before .before .before .pre .1) _ _ (c .before .before .before .pre .2) (c .before .before .before .pre .3), block-fits _ _ _ (c .before .before .before .pre .1) _ _ (c .before .before .before .pre .2) (c .before .before .before .pre .3))
 
 mul-t15 : tie.Need-mul-t15
 mul-t15 c = rw (c .before .stride-of .ensures _ (c .before .before .before .pre .1 .spanned)) (omega (arith, row-fits _ _ _ (c .before .before .before .pre .1) _ _ (c .before .before .before .pre .2) (c .before .before .before .pre .3), c .before .before .before .pre .3, c .before .before .before .good .1 .0 .0))
@@ -51,7 +51,7 @@ smaller-requires : tie.Need-smaller-requires
 smaller-requires c κs = search needs
 
 returns : tie.Need-returns
-returns c = λ ps s order inside. c .smaller .ensures ∙ rw (c .before .before .before .stride-of .ensures _ (s .spanned), window-is _ _ _ s _ _ order inside) (two-windows _ _ _ s _ _ order inside)
+returns c = λ ps s order inside. c .smaller .ensures ∙ rw (c .before .before .before .stride-of .ensures _ (s .spanned), block-is _ _ _ s _ _ order inside) (two-blocks _ _ _ s _ _ order inside)
 
 pub smallest-parent-spec : {M : Type 1} → statement M
 smallest-parent-spec =
@@ -62,7 +62,7 @@ smallest-parent-spec =
     sub-bits-2
     stride-of-requires
     mul-row
-    shl-window
+    shl-block
     add-t10
     mul-t12
     shared-slice-read-t14

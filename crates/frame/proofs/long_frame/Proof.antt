@@ -3,7 +3,7 @@ use mathlib.Core.Path.{_≡_}
 use native.Mathlib.Omega.{arith}
 use borrow.Author.Tests.{ne-eqb}
 use borrow.Author.Needs.{needs}
-use Rattle.model.specs.Table.{firstLine, frameOf}
+use Rattle.model.specs.Table.{firstLine, frameOf, beyondWindows}
 use Rattle.frame.specs.Fields.{spells}
 use Rattle.frame.specs.Lines.{longFrame}
 use Rattle.frame.proofs.Frames.{ends-within, first-wrong, second-wrong, long-right}
@@ -70,12 +70,15 @@ no-frame-requires-3 : tie.Need-no-frame-requires-3
 no-frame-requires-3 c κs = search needs
 
 returns-3 : tie.Need-returns-3
+unfolding beyondWindows
 returns-3 c = rw (frame-of (c .before), c .match .keys1)
 
 returns-4 : tie.Need-returns-4
+unfolding beyondWindows
 returns-4 c = rw (frame-of (c .before), c .match .keys2)
 
 returns-5 : tie.Need-returns-5
+unfolding beyondWindows
 returns-5 c = rw (frame-of (c .before), c .match .keys3)
 
 returns-6 : tie.Need-returns-6

@@ -1,11 +1,11 @@
--- `frame::read_frame` meets its contract: a frame's line ends after 6 or 10 bytes.
+-- `frame::read_frame` meets its contract: a frame's line ends after 6 or 10 bytes, or it has a window.
 use mathlib.Core.Path.{refl, sym, _∙_}
 use mathlib.Core.List.{[]}
 use native.Mathlib.Nat.{le-of-lt}
 use lib.ListN.{drop, drop-of-length-le}
 use borrow.Author.Needs.{needs}
 use Rattle.frame.specs.Lines.{rest}
-use Rattle.frame.proofs.Frames.{no-ends}
+use Rattle.frame.proofs.Frames.{windowed-end, no-ends}
 use Rattle.frame.proofs.read_frame.Statement.{statement}
 use Rattle.frame.proofs.read_frame.Tie as tie
 
@@ -16,7 +16,7 @@ returns : tie.Need-returns
 returns c =
     let s = c .before .before .before .args .bytes .now in
     let past = drop-of-length-le s (le-of-lt (c .before .if1 .taken)) in
-    rw (c .no-frame .ensures, past, no-ends [] refl refl)
+    rw (c .no-frame .ensures, past, no-ends [] refl refl (windowed-end [] refl))
 
 sub-s : tie.Need-sub-s
 sub-s c = search needs
@@ -50,16 +50,29 @@ returns-3 c =
     let a = c .before .before .before .before .before .before .before .before .args in
     rw (← rest (a .bytes .now) (a .at)) (c .long-frame .ensures)
 
-no-frame-requires-2 : tie.Need-no-frame-requires-2
-no-frame-requires-2 c κs = search needs
+is-windowed-requires : tie.Need-is-windowed-requires
+is-windowed-requires c κs = search needs
+
+windowed-frame-requires : tie.Need-windowed-frame-requires
+windowed-frame-requires c κs =
+    (c .before .before .before .before .before .before .before .before .before .pre, sym (c .before .is-windowed .ensures) ∙ c .if4 .taken)
 
 returns-4 : tie.Need-returns-4
 returns-4 c =
-    let a = c .before .before .before .before .before .before .before .before .args in
+    let a = c .before .before .before .before .before .before .before .before .before .before .args in
+    rw (← rest (a .bytes .now) (a .at)) (c .windowed-frame .ensures)
+
+no-frame-requires-2 : tie.Need-no-frame-requires-2
+no-frame-requires-2 c κs = search needs
+
+returns-5 : tie.Need-returns-5
+returns-5 c =
+    let a = c .before .before .before .before .before .before .before .before .before .before .args in
     let same = rest (a .bytes .now) (a .at) in
-    let short = sym (rw same at (c .before .before .before .before .ends-after .ensures)) ∙ c .before .before .before .if2 .left in
-    let long = sym (rw same at (c .before .before .ends-after2 .ensures)) ∙ c .before .if3 .left in
-    rw (c .no-frame2 .ensures, no-ends (drop (a .at) (a .bytes .now)) short long)
+    let short = sym (rw same at (c .before .before .before .before .before .before .ends-after .ensures)) ∙ c .before .before .before .before .before .if2 .left in
+    let long = sym (rw same at (c .before .before .before .before .ends-after2 .ensures)) ∙ c .before .before .before .if3 .left in
+    let windowed = sym (rw same at (c .before .before .is-windowed .ensures)) ∙ c .before .if4 .left in
+    rw (c .no-frame2 .ensures, no-ends (drop (a .at) (a .bytes .now)) short long windowed)
 
 pub read-frame-spec : {M : Type 1} → statement M
 read-frame-spec =
@@ -76,5 +89,8 @@ read-frame-spec =
     ends-after-requires-2
     long-frame-requires
     returns-3
+    is-windowed-requires
+    windowed-frame-requires
+    returns-4
     no-frame-requires-2
-    returns-4)
+    returns-5)

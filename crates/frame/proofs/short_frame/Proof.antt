@@ -2,6 +2,7 @@
 use native.Mathlib.Omega.{arith}
 use borrow.Author.Tests.{ne-eqb}
 use borrow.Author.Needs.{needs}
+use Rattle.model.specs.Table.{beyondWindows}
 use Rattle.frame.proofs.Frames.{ends-within, short-wrong, short-right}
 use Rattle.frame.proofs.short_frame.Statement.{statement}
 use Rattle.frame.proofs.short_frame.Tie as tie
@@ -27,6 +28,7 @@ cast-t7 : tie.Need-cast-t7
 cast-t7 c = search needs
 
 returns-2 : tie.Need-returns-2
+unfolding beyondWindows
 returns-2 c =
     let start = c .before .before .before .before .before in
     let f = c .before .before .before .field in

@@ -1,10 +1,10 @@
 -- `own_line::line_of_job` meets its contract: line by line it looks for the same job.
-use Prim.Native.Nat.{_-_}
+use Prim.Native.Nat.{_-_, _≤_}
 use mathlib.Core.Path.{_≡_, sym, _∙_}
 use lib.ListN.{length, drop}
 use Rattle.frame.specs.Fields.{endsAfter}
-use Rattle.frame.specs.Lines.{rest}
-use Rattle.own_line.specs.OwnLine.{ownLine, Looking, from-start, past-layout, found, past-job, bytes-left}
+use Rattle.frame.specs.Lines.{rest, jobWidth}
+use Rattle.own_line.specs.OwnLine.{ownLine, job-wide, Looking, from-start, past-layout, found, past-job, bytes-left}
 use borrow.Author.Needs.{needs}
 use native.Mathlib.Omega.{arith}
 use Rattle.own_line.proofs.line_of_job.Statement.{statement}
@@ -69,16 +69,43 @@ sub-before c = search needs
 add-line-2 : tie.Need-add-line-2 Inv-loop μ-loop
 add-line-2 c = search needs
 
+sub-job-width : tie.Need-sub-job-width Inv-loop μ-loop
+sub-job-width c = search needs
+
+part-job-width-start : tie.Need-part-job-width-start Inv-loop μ-loop
+part-job-width-start c = search needs
+
+part-job-width-end : tie.Need-part-job-width-end Inv-loop μ-loop
+part-job-width-end c = search needs
+
+job-width-requires : tie.Need-job-width-requires Inv-loop μ-loop
+job-width-requires c κs = search needs
+
+-- how wide the line is
+wide : (c : tie.After-job-width Inv-loop μ-loop)
+    → let l = c .before .before .before .before .before .before .before in
+    c .job-width .result ≡ jobWidth (drop (l .loop .at) (l .before .before .args .bytes .now))
+wide c =
+    let l = c .before .before .before .before .before .before .before in
+    rw (← rest (l .before .before .args .bytes .now) (l .loop .at)) (c .job-width .ensures)
+
+-- 11 or 13 bytes
+wide-some : (c : tie.After-job-width Inv-loop μ-loop) → (11 ≤ c .job-width .result) × (c .job-width .result ≤ 13)
+wide-some c =
+    let l = c .before .before .before .before .before .before .before in
+    rw (wide c) (job-wide (drop (l .loop .at) (l .before .before .args .bytes .now)))
+
 add-at-2 : tie.Need-add-at-2 Inv-loop μ-loop
-add-at-2 c = search needs
+add-at-2 c = omega (arith, wide-some c, c .before .before .before .before .before .before .loop-test .taken)
 
 loop-less-2 : tie.Need-loop-less-2 Inv-loop μ-loop
-loop-less-2 c = search needs
+loop-less-2 c = omega (arith, wide-some c, c .before .before .before .before .before .before .loop-test .taken)
 
 loop-again-2 : tie.Need-loop-again-2 Inv-loop μ-loop
 loop-again-2 c =
-    let l = c .before .before .before .before .before in
-    past-job _ _ _ _ _ (l .before .before .pre .0) (l .loop .inv) (sym (told (c .before .before)) ∙ c .before .if1 .left) (c .if2 .left)
+    let l = c .before .before .before .before .before .before .before in
+    let no-layout = sym (told (c .before .before .before .before)) ∙ c .before .before .before .if1 .left in
+    rw (wide c) (past-job _ _ _ _ _ (l .before .before .pre .0) (l .loop .inv) no-layout (c .before .before .if2 .left))
 
 returns-2 : tie.Need-returns-2 Inv-loop μ-loop
 returns-2 c = absurd (bytes-left _ _ _ _ _ (c .before .before .before .pre .0) (c .before .loop .inv) (c .loop-test .left))
@@ -102,6 +129,10 @@ line-of-job-spec =
     returns
     sub-before
     add-line-2
+    sub-job-width
+    part-job-width-start
+    part-job-width-end
+    job-width-requires
     add-at-2
     loop-less-2
     loop-again-2

@@ -9,10 +9,10 @@ use Rattle.planner.proofs.plan_accepted.Tie as tie
 
 -- the table that was lent
 abbrev table-lent : tie.Start → Table
-table-lent c = tableOf (c .args .parents .now) (c .args .uppers .now) (c .args .bottoms .now) (c .args .marks .now)
+table-lent c = tableOf (c .args .parents .now) (c .args .uppers .now) (c .args .bottoms .now) (c .args .marks .now) (c .args .windows .now)
 
 make-passes-requires : tie.Need-make-passes-requires
-make-passes-requires c κs = let s = c .before .before .before .before .before .before .before .before .before .before in (s .pre .0, (s .pre .1 .0, enough _ (s .args .work .now) (s .pre .0 .few) (s .pre .1 .1 .work-length)))
+make-passes-requires c κs = let s = (c .before .before .before .before .before .before .before .before .before .before .before) in (s .pre .0, (s .pre .1 .0, enough _ (s .args .work .now) (s .pre .0 .few) (s .pre .1 .1 .work-length)))
 
 cast-count : tie.Need-cast-count
 cast-count c = search needs
@@ -25,7 +25,7 @@ add-count c = search needs
 
 hand-back-requires : tie.Need-hand-back-requires
 hand-back-requires c κs =
-    let s = c .before .before .before .before .before .before .before .before .before .before .before .before .before .before .before .before .before .before .before .before .before .before .before in
+    let s = (c .before .before .before .before .before .before .before .before .before .before .before .before .before .before .before .before .before .before .before .before .before .before .before .before) in
     let room = s .pre .1 .1 in
     ((table-lent s, c .before .before .before .before .before .before .before .before .before .before .before .before .make-passes .ensures .plan), (omega (arith, room .partners-length, s .pre .0 .bottoms-length), omega (arith, room .printed-length, s .pre .0 .bottoms-length)))
 
@@ -49,7 +49,7 @@ same-length-5 c = search needs
 
 returns : tie.Need-returns
 returns c =
-    let s = c .before .before .before .before .before .before .before .before .before .before .before .before .before .before .before .before .before .before .before .before .before .before .before .before .before .before .before .before .before .before .before .before .before .before in
+    let s = (c .before .before .before .before .before .before .before .before .before .before .before .before .before .before .before .before .before .before .before .before .before .before .before .before .before .before .before .before .before .before .before .before .before .before .before) in
     let made = c .before .before .before .before .before .before .before .before .before .before .before .before .before .before .before .before .before .before .before .before .before .before .before .make-passes .ensures in
     record {
       totals = made .totals;

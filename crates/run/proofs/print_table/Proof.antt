@@ -6,13 +6,13 @@ use Rattle.run.proofs.print_table.Tie as tie
 
 -- the table that was lent
 abbrev table-lent : tie.Start → Table
-table-lent c = tableOf (c .args .parents .now) (c .args .tops .now) (c .args .bottoms .now) (c .args .marks .now)
+table-lent c = tableOf (c .args .parents .now) (c .args .tops .now) (c .args .bottoms .now) (c .args .marks .now) (c .args .windows .now)
 
 make-passes-requires : tie.Need-make-passes-requires
-make-passes-requires c κs = let p = c .before .before .before .before .before .before .before .before .before .pre in (p .0, (p .1 .0, p .1 .1 .0))
+make-passes-requires c κs = let p = c .before .before .before .before .before .before .before .before .before .before .pre in (p .0, (p .1 .0, p .1 .1 .0))
 
 print-plan-requires : tie.Need-print-plan-requires
-print-plan-requires c κs = let m = c .before .before .before .before .before .before .before .before .before .make-passes .ensures in let s = c .before .before .before .before .before .before .before .before .before .before .before .before .before .before .before .before .before .before .before in ((table-lent s, m .plan, m .totals), s .pre .1 .1 .1)
+print-plan-requires c κs = let m = c .before .before .before .before .before .before .before .before .before .make-passes .ensures in let s = (c .before .before .before .before .before .before .before .before .before .before .before .before .before .before .before .before .before .before .before .before) in ((table-lent s, m .plan, m .totals), s .pre .1 .1 .1)
 
 same-length : tie.Need-same-length
 same-length c = search needs
@@ -27,7 +27,7 @@ same-length-4 : tie.Need-same-length-4
 same-length-4 c = search needs
 
 returns : tie.Need-returns
-returns c = let m = c .before .before .before .before .before .before .before .before .before .before .before .before .make-passes .ensures in c .before .before .print-plan .ensures (table-lent (c .before .before .before .before .before .before .before .before .before .before .before .before .before .before .before .before .before .before .before .before .before .before)) (m .plan) (m .totals)
+returns c = let m = c .before .before .before .before .before .before .before .before .before .before .before .before .make-passes .ensures in c .before .before .print-plan .ensures (table-lent (c .before .before .before .before .before .before .before .before .before .before .before .before .before .before .before .before .before .before .before .before .before .before .before)) (m .plan) (m .totals)
 
 pub print-table-spec : {M : Type 1} → statement M
 print-table-spec =

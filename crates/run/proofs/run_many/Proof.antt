@@ -17,14 +17,17 @@ slice-aggregate-run-in-3 c = search needs
 slice-aggregate-run-in-4 : tie.Need-slice-aggregate-run-in-4
 slice-aggregate-run-in-4 c = search needs
 
+slice-aggregate-run-in-5 : tie.Need-slice-aggregate-run-in-5
+slice-aggregate-run-in-5 c = search needs
+
 run-in-requires : tie.Need-run-in-requires
-run-in-requires c κs = (c .before .before .before .before .before .before .before .pre, arrays (c .before .before .before .before .before .before .before .args .input .now) 12 (λ m h k. omega arith))
+run-in-requires c κs = (c .before .before .before .before .before .before .before .before .pre, arrays (c .before .before .before .before .before .before .before .before .args .input .now) 12 (λ m h k. omega arith))
 
 same-length : tie.Need-same-length
 same-length c = search needs
 
 returns : tie.Need-returns
-returns c = c .before .before .before .before .before .before .run-in .ensures
+returns c = c .before .before .before .before .before .before .before .run-in .ensures
 
 pub run-many-spec : {M : Type 1} → statement M
 run-many-spec =
@@ -34,6 +37,7 @@ run-many-spec =
     slice-aggregate-run-in-2
     slice-aggregate-run-in-3
     slice-aggregate-run-in-4
+    slice-aggregate-run-in-5
     run-in-requires
     same-length
     returns)

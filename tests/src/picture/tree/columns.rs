@@ -34,7 +34,7 @@ impl Columns {
         columns
     }
 
-    /// The column of one leaf, with the bars of the jobs there in slot order: by place.
+    /// The column of one leaf, with the bars of the jobs there by place, whatever their window.
     fn add(&mut self, planned: &Planned, leaf: usize, pitch: i32) {
         self.lefts.push(self.end);
         self.end += LABEL;

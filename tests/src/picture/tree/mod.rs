@@ -2,12 +2,13 @@
 //! job is a bar in the column of its bottom's first leaf: there the boxes from the depth of its
 //! bottom up to that of its top are just its path. A pair is tied by a rung in the box of the
 //! layout that it prints on, and by a dashed one in that of the barest layout that does, where that is
-//! another. The box of layout 0, on which no pair prints, is white and dashed.
+//! another. The box of layout 0, on which no pair prints, is white and dashed. Where the jobs are in
+//! windows, each bar has a tag with its window.
 
 mod columns;
 mod rungs;
 
-use super::chips::job_shape;
+use super::chips::{below_plate, job_shape, tag, TAG};
 use super::markup::Element;
 use super::planned::Planned;
 use super::shapes::{group, line, rectangle, text, text_width, Area, Panel, Point};
@@ -74,13 +75,21 @@ impl Rows {
             end: from,
         };
         for depth in 0..=deepest {
-            let height = HEAD + rungs.in_row(depth) * RUNG + FOOT;
+            let height = head(planned) + rungs.in_row(depth) * RUNG + FOOT;
             rows.tops.push(rows.end);
             rows.feet.push(rows.end + height);
             rows.end += height + GAP;
         }
         rows.end -= GAP;
         rows
+    }
+}
+
+/// The height of a row's upper part, with the tags of the bars too where there are any.
+fn head(planned: &Planned) -> i32 {
+    match planned.has_windows() {
+        true => HEAD + TAG,
+        false => HEAD,
     }
 }
 
@@ -116,7 +125,10 @@ fn bars(planned: &Planned, columns: &Columns, rows: &Rows) -> Element {
     let jobs = 0..planned.order.len();
     group("bars").holding_all(jobs.map(|job| {
         let area = bar(planned, columns, rows, job);
-        job_shape(planned, job, area, "job")
+        let tag = planned
+            .window(job)
+            .map(|window| tag(window, below_plate(area)));
+        job_shape(planned, job, area, "job").holding_all(tag)
     }))
 }
 

@@ -3,7 +3,7 @@
 //! row where it touches no other.
 
 use super::columns::Columns;
-use super::{Rows, HEAD, RUNG};
+use super::{head, Rows, RUNG};
 use crate::picture::chips::{badge, dashed_badge, BADGE};
 use crate::picture::markup::Element;
 use crate::picture::planned::{Pass, Planned};
@@ -94,7 +94,7 @@ impl Rungs<'_> {
 
     fn points(&self, rung: &Rung, columns: &Columns, rows: &Rows) -> (Point, Point) {
         let row = rows.tops[self.planned.depth(rung.layout)];
-        let y = row + HEAD + rung.track as i32 * RUNG + RUNG / 2;
+        let y = row + head(self.planned) + rung.track as i32 * RUNG + RUNG / 2;
         let point = |job: usize| Point {
             x: columns.bars[job],
             y,

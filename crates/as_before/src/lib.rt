@@ -1,0 +1,1 @@
+// Laws of what was read and printed before 2026-04, in specs/; there is no code here.
