@@ -1,7 +1,7 @@
 //! Document 01's own tables ("Tables to try" and the bakehouse table of "The plan"), with what it says
 //! of each as changed by 2026-01, 2026-02, 2026-04 and 2026-05, the tables on which wrong planners fail,
-//! and shared stretches. Pairs, both ends of what they share, visits, refusals and stretches are worked
-//! out by hand from the definitions.
+//! rivals beside our plans (2026-14), and shared stretches. Pairs, both ends of what they share, visits,
+//! refusals, first differences and stretches are worked out by hand from the definitions.
 
 use crate::reference::{Refusal, Table, ABSENT, WINDOW_LIMIT};
 
@@ -150,6 +150,28 @@ fn telling_without_windows() -> Vec<Example> {
             &[Plain(0, 1), Plain(0, 2), Plain(2, 2), Plain(2, 2)],
             planned(&[(2, 3, 2, 2), (0, 1, 1, 1)], 2),
         ),
+        // Order 0, 1, 2, one leaf. Jobs 0 and 1 ask for three slots of four. A rival has 1 and 2 paired:
+        // as many pairs in front of every cut, but job 0 is single.
+        example(
+            "the earlier job",
+            &[F, 0, 1, 2],
+            &[Plain(3, 3), Plain(2, 2), Plain(1, 3)],
+            planned(&[(0, 2, 3, 3)], 10),
+        ),
+        // The same with the jobs numbered from the other end: order 2, 1, 0.
+        example(
+            "the earlier job numbered last",
+            &[F, 0, 1, 2],
+            &[Plain(1, 3), Plain(2, 2), Plain(3, 3)],
+            planned(&[(2, 0, 3, 3)], 10),
+        ),
+        // Jobs 0 and 2 ask for all four slots.
+        example(
+            "four jobs alike",
+            &[F, 0],
+            &[Plain(1, 1), Plain(1, 1), Plain(1, 1), Plain(1, 1)],
+            planned(&[(0, 1, 1, 1), (2, 3, 1, 1)], 2),
+        ),
         // Job 1 goes first and asks for both slots; the bottom of job 0 has the leaf, but not the
         // depth.
         example(
@@ -279,6 +301,13 @@ fn telling_windows() -> Vec<Example> {
                 Plain(1, 1),
             ],
             planned(&[(0, 3, 2, 2)], 18),
+        ),
+        // Order 0 to 3. Job 0 asks for the one slot of window 1, jobs 1 and 2 for three of four.
+        example(
+            "a job alone before the earlier one",
+            &[F, 0, 1, 2],
+            &[In(1, 3, 3), Plain(3, 3), Plain(2, 2), Plain(1, 3)],
+            planned(&[(1, 3, 3, 3)], 11),
         ),
         // Job 1 asks for both slots of window 1; the solo job has its slot in window 0.
         example(
@@ -435,6 +464,76 @@ pub fn named(name: &str) -> Result<Example, String> {
     let found = examples.find(|example| example.name == name);
     found.ok_or_else(|| format!("no table is named {name:?}"))
 }
+
+/// A rival plan of a table that is worked by hand, by the table's name; the pairs in front of the cuts
+/// from 0 to M, ours and the rival's; and the first job that one of the two has paired and the other
+/// single.
+pub struct Comparison {
+    pub table: &'static str,
+    pub rival: &'static [(usize, usize)],
+    pub ours_in_front: &'static [usize],
+    pub rivals_in_front: &'static [usize],
+    pub first: Option<usize>,
+}
+
+pub const COMPARISONS: [Comparison; 7] = [
+    // As many pairs in front of every cut, but the first job is single.
+    Comparison {
+        table: "the earlier job",
+        rival: &[(1, 2)],
+        ours_in_front: &[0, 0, 0, 1],
+        rivals_in_front: &[0, 0, 0, 1],
+        first: Some(0),
+    },
+    // Order 2, 1, 0: by job number the first difference would be job 1.
+    Comparison {
+        table: "the earlier job numbered last",
+        rival: &[(0, 1)],
+        ours_in_front: &[0, 0, 0, 1],
+        rivals_in_front: &[0, 0, 0, 1],
+        first: Some(2),
+    },
+    // Job 0 is single in both.
+    Comparison {
+        table: "a job alone before the earlier one",
+        rival: &[(2, 3)],
+        ours_in_front: &[0, 0, 0, 0, 1],
+        rivals_in_front: &[0, 0, 0, 0, 1],
+        first: Some(1),
+    },
+    // Order 4, 0, 1, 2, 3: job 4 is paired in both.
+    Comparison {
+        table: "the bakehouse table",
+        rival: &[(4, 1), (2, 3)],
+        ours_in_front: &[0, 0, 1, 1, 1, 2],
+        rivals_in_front: &[0, 0, 0, 1, 1, 2],
+        first: Some(0),
+    },
+    // No pairs at all.
+    Comparison {
+        table: "the bakehouse table",
+        rival: &[],
+        ours_in_front: &[0, 0, 1, 1, 1, 2],
+        rivals_in_front: &[0; 6],
+        first: Some(4),
+    },
+    // Fewer pairs.
+    Comparison {
+        table: "four jobs alike",
+        rival: &[(0, 1)],
+        ours_in_front: &[0, 0, 1, 1, 2],
+        rivals_in_front: &[0, 0, 1, 1, 1],
+        first: Some(2),
+    },
+    // Fewer pairs in front of cut 2, but the same jobs paired.
+    Comparison {
+        table: "four jobs alike",
+        rival: &[(0, 3), (1, 2)],
+        ours_in_front: &[0, 0, 1, 1, 2],
+        rivals_in_front: &[0, 0, 0, 1, 2],
+        first: None,
+    },
+];
 
 /// The bakehouse table as document 01 prints it.
 pub const BAKEHOUSE_BYTES: &[u8] = b"01FFFF

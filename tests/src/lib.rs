@@ -6,6 +6,8 @@
 pub mod both_ends;
 pub mod browser;
 pub mod by_hand;
+pub mod earlier_checks;
+pub mod earlier_paired;
 pub mod examples;
 pub mod forbidden;
 pub mod lent;

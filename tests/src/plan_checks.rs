@@ -1,15 +1,17 @@
-//! *Plan* beside the quadratic implementation, and its pairs beside exhaustive search at every cut
-//! (document 01, "What each operation turns away" and "Rival plans and the cut"; 2026-05, printing
-//! windows). The planner is a parameter, so that the checks can be tried on wrong ones.
+//! *Plan* beside the quadratic implementation, and its pairs beside exhaustive search at every cut and
+//! every rival plan (document 01, "What each operation turns away" and "Rival plans and the cut"; 2026-05,
+//! printing windows; 2026-14, the earlier job). The planner is a parameter, so that the checks can be
+//! tried on wrong ones.
 
 use crate::both_ends;
+use crate::earlier_paired;
 use crate::examples::{in_turn, lent, marked, telling, Example, Pair, Passes, Said};
 use crate::forbidden::Search;
 use crate::lent::Lent;
 use crate::made::borders::borders;
 use crate::made::damage::window_beyond;
 use crate::made::tables::{
-    any_parents, path, table, table_for_search, table_of_size, tables_spread,
+    any_parents, path, table, table_for_search, table_of_size, table_with_rivals, tables_spread,
 };
 use crate::made::tables::{Reach, Size};
 use crate::made::windows::{any_spread, every_spread, spread, spread_solo_jobs, Spread};
@@ -63,13 +65,16 @@ pub fn run(report: &mut Report, planner: Planner) {
         check_columns(planner, &example)
     });
     report.listed("every small table", small_tables(), |table| {
-        check_at_every_cut(planner, &table, &mut Generator::new(0))
+        check_beside_rivals(planner, &table, &mut Generator::new(0))
     });
     report.listed("every small table with windows", small_windows(), |table| {
-        check_at_every_cut(planner, &table, &mut Generator::new(0))
+        check_beside_rivals(planner, &table, &mut Generator::new(0))
     });
-    report.made("exhaustive search at every cut", 20_000, |generator| {
-        check_at_every_cut(planner, &table_for_search(generator), generator)
+    report.made("every rival, at every cut", 20_000, |generator| {
+        check_beside_rivals(planner, &table_for_search(generator), generator)
+    });
+    report.made("many rivals", 10_000, |generator| {
+        check_beside_rivals(planner, &table_with_rivals(generator), generator)
     });
     let mut counted = |table: &Table, room: Room, generator: &mut Generator| -> Outcome {
         answers.add(&call(planner, table, room, generator)?);
@@ -155,8 +160,9 @@ fn holds_over(lent: &Lent<u16>, name: &str, written: &[u16]) -> Outcome {
     lent.holds(name, &expected)
 }
 
-/// The pairs given back keep the rules, and no rival has more in front of any cut.
-fn check_at_every_cut(planner: Planner, table: &Table, generator: &mut Generator) -> Outcome {
+/// The pairs given back keep the rules, no rival has more in front of any cut, and none has an earlier job
+/// paired that they leave single.
+fn check_beside_rivals(planner: Planner, table: &Table, generator: &mut Generator) -> Outcome {
     let answer = call(planner, table, Room::exact(table), generator)?;
     let partners = answer.map_err(|refusal| format!("refused: {refusal:?}"))?;
     let pairs = pairs_of(&partners);
@@ -168,7 +174,7 @@ fn check_at_every_cut(planner: Planner, table: &Table, generator: &mut Generator
             "pairs in front of the cuts are {ours:?}, not {most:?}"
         ));
     }
-    Ok(())
+    earlier_paired::check(table, &pairs)
 }
 
 /// A table worked by hand, against what is said of it and against the reference.

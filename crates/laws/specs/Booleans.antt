@@ -2,7 +2,7 @@
 use Prim.Native.Nat.{ℕ, _+_}
 use mathlib.Core.Path.{_≡_, refl, sym, _∙_}
 use mathlib.Core.Logic.{_⊎_, inl, inr}
-use mathlib.Core.Bool.{Bool, true, false, _||_, true≢false}
+use mathlib.Core.Bool.{Bool, true, false, not, xor, _||_, true≢false}
 use native.Mathlib.Omega.{arith}
 use native.Mathlib.Decide.{decLt, ℕ-discrete}
 use lib.Dec.{T, eqb, leb, ltb}
@@ -37,6 +37,35 @@ or-right false b e = e
 pub or-false-both : (a b : Bool) → (a || b) ≡ false → (a ≡ false) × (b ≡ false)
 or-false-both true b e = absurd (true≢false e)
 or-false-both false b e = (refl, e)
+
+-- exactly one of two tests passes, whichever is named first
+pub xor-symmetric : (a b : Bool) → xor a b ≡ xor b a
+unfolding xor
+xor-symmetric true true = refl
+xor-symmetric true false = refl
+xor-symmetric false true = refl
+xor-symmetric false false = refl
+
+-- then the second answers what the first does not
+pub xor-true : (a b : Bool) → xor a b ≡ true → b ≡ not a
+unfolding xor
+xor-true true true e = sym e
+xor-true true false e = refl
+xor-true false true e = refl
+xor-true false false e = e
+
+pub true-xor : (a b : Bool) → b ≡ not a → xor a b ≡ true
+unfolding xor
+true-xor true b e = rw e refl
+true-xor false b e = rw e refl
+
+-- and otherwise the same
+pub xor-false : (a b : Bool) → xor a b ≡ false → b ≡ a
+unfolding xor
+xor-false true true e = refl
+xor-false true false e = sym e
+xor-false false true e = e
+xor-false false false e = refl
 
 -- a test that passes, as a type
 pub true-T : {b : Bool} → b ≡ true → T b

@@ -356,6 +356,12 @@ module _ (p : ℕ → Bool) where
       (λ (t : p x ≡ false). rw t (find-right xs ys (rw t at e)))
       (answers (p x))
 
+-- two tests that answer alike find alike
+pub find-agree : {A : Type 0} (p q : A → Bool) (l : List A) → All (λ (x : A). p x ≡ q x) l → find p l ≡ find q l
+unfolding find
+find-agree p q [] a = refl
+find-agree p q (x ∷ xs) a = rw (a .0, find-agree p q xs (a .1)) refl
+
 -- ---- sums
 
 -- one member more adds its number

@@ -5,10 +5,12 @@ use mathlib.Core.Bool.{Bool, true, false, not, _&&_, and-false, and-comm, and-eq
 use borrow.Author.Tests.{eqb-true, eq-eqb}
 use Rattle.model.specs.Jobs.{Table, jobs, bottom, solo, bare, asks, window, sameWindow, shares, highestDepth}
 use Rattle.model.specs.Greedy.{compatible}
-use Rattle.laws.specs.Booleans.{same-test}
+use Rattle.model.specs.Rival.{Pair, Rules}
+use Rattle.laws.specs.Booleans.{same-test, T-true}
 use Rattle.tree_laws.specs.WellFormed.{Tree}
 use Rattle.tree_laws.specs.Sharing.{Downward, bare-is, bare-alone, shares-symmetric, strong-elimination}
-use Rattle.matching.specs.Maximum.{StrongElimination}
+use Rattle.matching.specs.Matchings.{Fits}
+use Rattle.matching.specs.Exchange.{StrongElimination}
 
 module _ (tb : Table) where
   -- one window is one number
@@ -36,6 +38,15 @@ module _ (tb : Table) where
   pub true-compatible : (i j : ℕ) → not (solo tb i) ≡ true → not (solo tb j) ≡ true → sameWindow tb i j ≡ true → shares tb i j ≡ true → compatible tb i j ≡ true
   unfolding compatible
   true-compatible i j a b c d = rw (a, b, c, d) refl
+
+  -- so the two of a pair that keeps the rules fit, where P holds of both
+  pub rules-fit : (P : ℕ → Type 0) (p : Pair) → Rules tb p → P (p .one) → P (p .other) → Fits (compatible tb) P p
+  rules-fit P p r one-in other-in = record {
+    one-in = one-in;
+    other-in = other-in;
+    differ = r .differ;
+    fits = true-compatible (p .one) (p .other) (T-true (not (solo tb (p .one))) (r .one-not-solo)) (T-true (not (solo tb (p .other))) (r .other-not-solo)) (T-true (sameWindow tb (p .one) (p .other)) (r .same-window)) (T-true (shares tb (p .one) (p .other)) (r .share));
+  }
 
   -- they are compatible if both ask, are in one window and share: a job 0-0 shares with none
   pub compatible-asks : Tree (tb .parents) → (i j : ℕ) → Downward tb i → Downward tb j → compatible tb i j ≡ (asks tb i && asks tb j && sameWindow tb i j && shares tb i j)

@@ -2,28 +2,30 @@
 -- The pairs in front of a cut are the greedy rule's pairs of the jobs in front of it, and those are a maximum matching.
 use Prim.Native.Nat.{ℕ, _≤_, _<_}
 use mathlib.Core.Path.{_≡_, sym, ap, _∙_}
-use mathlib.Core.Bool.{Bool, true, false, not, and-eq-true-iff}
+use mathlib.Core.Logic.{_≢_}
+use mathlib.Core.Bool.{Bool, true, false, and-eq-true-iff}
 use mathlib.Core.List.{List, List·Memᴰ as Mem}
 use lib.ListN.{length, take, drop, take-append-drop}
 use lib.Dec.{ltb}
 use borrow.Author.Tests.{ltb-true, lt-ltb, le-ltb}
 use Rattle.model.specs.Lists.{countWhere, select, total}
-use Rattle.model.specs.Jobs.{Table, jobs, jobLimit, solo, sameWindow, shares, highestDepth}
+use Rattle.model.specs.Jobs.{Table, jobs, jobLimit, highestDepth}
 use Rattle.model.specs.Order.{runningOrder, place}
 use Rattle.model.specs.Greedy.{greedy, compatible, passes}
 use Rattle.model.specs.Rival.{Pair, NoCommonJob, Rules, Rival, inFront, pairsInFront, pairsOf}
 use Rattle.model.specs.Planning.{pairCount, partners}
 use Rattle.laws.specs.Lists.{mem-all, all-imply, selected-all, select-pairwise}
-use Rattle.laws.specs.Booleans.{T-true}
 use Rattle.laws.specs.Counting.{count-length}
 use Rattle.laws.specs.Places.{take-mem, take-pairwise}
 use Rattle.tree_laws.specs.WellFormed.{Tree}
 use Rattle.tree_laws.specs.Sharing.{Downward}
-use Rattle.matching.specs.Compatible.{true-compatible, compatible-eliminates}
-use Rattle.matching.specs.Maximum.{Falls, Fits, greedy-maximum}
+use Rattle.matching.specs.Compatible.{rules-fit, compatible-eliminates}
+use Rattle.matching.specs.Matchings.{Fits}
+use Rattle.matching.specs.Exchange.{Falls}
+use Rattle.matching.specs.Maximum.{greedy-maximum}
 use Rattle.matching.specs.Passes.{pairsIn, pairs-length}
 use Rattle.matching.specs.Prefix.{both, greedy-inside}
-use Rattle.matching.specs.RunningOrder.{running-mem, running-falls, front-place, place-front, behind-place}
+use Rattle.matching.specs.RunningOrder.{running-mem, running-distinct, running-falls, front-place, place-front, behind-place}
 use Rattle.matching.specs.Partners.{our-pairs-in-front}
 
 module _ (tb : Table) (m : ℕ) where
@@ -53,12 +55,7 @@ module _ (tb : Table) (m : ℕ) where
   unfolding inFront
   front-fits p r e =
       let b = and-eq-true-iff (ltb (place tb (p .one)) m) (ltb (place tb (p .other)) m) .0 e in
-      record {
-        one-in = place-front tb m (p .one) (r .one-known) (ltb-true (place tb (p .one)) m (b .0));
-        other-in = place-front tb m (p .other) (r .other-known) (ltb-true (place tb (p .other)) m (b .1));
-        differ = r .differ;
-        fits = true-compatible tb (p .one) (p .other) (T-true (not (solo tb (p .one))) (r .one-not-solo)) (T-true (not (solo tb (p .other))) (r .other-not-solo)) (T-true (sameWindow tb (p .one) (p .other)) (r .same-window)) (T-true (shares tb (p .one) (p .other)) (r .share));
-      }
+      rules-fit tb (λ (z : ℕ). Mem z (take m (runningOrder tb))) p r (place-front tb m (p .one) (r .one-known) (ltb-true (place tb (p .one)) m (b .0))) (place-front tb m (p .other) (r .other-known) (ltb-true (place tb (p .other)) m (b .1)))
 
 -- document 01: for every rival plan and every cut, our pairs in front of the cut are at least as many as the rival's.
 -- The rival's pairs in front of it are a matching of the jobs in front of it; ours are as many as the greedy rule makes of these jobs
@@ -80,6 +77,7 @@ maximum-at-every-cut tb t down small ps rival m = rw (our-pairs-in-front tb smal
     most = greedy-maximum (λ (j : ℕ). j < jobs tb) (highestDepth tb) (compatible tb) (compatible-eliminates tb t down) front
         (mem-all (λ (j : ℕ). j < jobs tb) front (λ j n. running-mem tb (take-mem m (runningOrder tb) n)))
         (take-pairwise (Falls (highestDepth tb)) m (runningOrder tb) (running-falls tb))
+        (take-pairwise _≢_ m (runningOrder tb) (running-distinct tb))
         (select (inFront tb m) ps)
         (all-imply (λ (p : Pair). Rules tb p × (inFront tb m p ≡ true)) (Fits (compatible tb) (λ (z : ℕ). Mem z front)) (select (inFront tb m) ps) (λ p r. front-fits tb m p (r .0) (r .1)) (selected-all (inFront tb m) (Rules tb) ps (rival .keep)))
         (select-pairwise (inFront tb m) NoCommonJob ps (rival .once))

@@ -2,22 +2,22 @@
 use Prim.Native.Nat.{ℕ, suc, _+_, _*_, _≤_, _<_}
 use mathlib.Core.Path.{_≡_, refl, sym, ap, _∙_}
 use mathlib.Core.Logic.{_⊎_, inl, inr, ⊎-elim, _≢_}
-use mathlib.Core.Bool.{Bool, true, false, cond, _&&_, and-comm, and-false, and-eq-true-iff}
+use mathlib.Core.Bool.{Bool, true, false, cond, _&&_, _||_, and-comm, and-false, and-eq-true-iff, or-comm}
 use mathlib.Core.List.{List, [], _∷_, List·Memᴰ as Mem, List·Memᴰ·head as here, List·Memᴰ·tail as there, List·Memᴰ·not-nil as not-nil, List·Memᴰ·cases-cons as mem-cons}
 use native.Mathlib.Decide.{decLt, ℕ-discrete}
 use native.Mathlib.Omega.{arith}
 use lib.ListN.{length, getD}
-use lib.Dec.{ltb}
+use lib.Dec.{eqb, ltb}
 use borrow.Author.Tests.{ltb-true, lt-ltb, le-ltb, eq-eqb, ne-eqb}
 use Rattle.model.specs.Lists.{numbers, countWhere, select, All, AllPairs}
 use Rattle.model.specs.Tree.{FFFF}
 use Rattle.model.specs.Jobs.{Table, jobs, jobLimit}
 use Rattle.model.specs.Order.{runningOrder, place}
 use Rattle.model.specs.Greedy.{Pass, pair, single, compatible, passes}
-use Rattle.model.specs.Rival.{Pair, NoCommonJob, Rules, Rival, inFront, pairsInFront, pairsOf}
+use Rattle.model.specs.Rival.{Pair, NoCommonJob, Rules, Rival, inFront, pairsInFront, pairsOf, inPair}
 use Rattle.model.specs.Planning.{partnerIn, partners, pairs, singles}
 use Rattle.laws.specs.Lists.{Distinct, all-mem, mem-all, pairwise-imply, select-mem, select-pairwise, map-all, map-pairwise}
-use Rattle.laws.specs.Counting.{count-length-all, count-agree, count-none, count-all, count-select, count-map, count-at}
+use Rattle.laws.specs.Counting.{any-counted, count-length-all, count-agree, count-none, count-all, count-select, count-map, count-at}
 use Rattle.laws.specs.Booleans.{true-T}
 use Rattle.laws.specs.Numbers.{mem-numbers, numbers-mem, numbers-at, numbers-rise, numbers-distinct}
 use Rattle.matching.specs.Compatible.{compatible-true, compatible-symmetric}
@@ -317,6 +317,15 @@ module _ (tb : Table) where
         (mem-all (λ (i : ℕ). shown (cell (partners tb)) (jobs tb) q i ≡ shown (partnerIn (passes tb)) (jobs tb) q i) (numbers (jobs tb)) (λ i m.
         ap (λ (j : ℕ). ltb i j && ltb j (jobs tb) && q (record { one = i; other = j })) (partner-cell i (numbers-mem (jobs tb) m))))
         ∙ read-passes (jobs tb) (omega arith) q turned (passes tb) passes-distinct passes-known
+
+    -- so they pair whom the passes pair
+    pub our-paired : (j : ℕ) → inPair (pairsOf (jobs tb) (partners tb)) j ≡ inPair (pairsIn (passes tb)) j
+    unfolding inPair
+    our-paired j =
+        let has-j : Pair → Bool = λ p. eqb j (p .one) || eqb j (p .other) in
+        any-counted has-j (pairsOf (jobs tb) (partners tb))
+        ∙ ap (ltb 0) (our-pairs-count has-j (λ a b. or-comm (eqb j a) (eqb j b)))
+        ∙ sym (any-counted has-j (pairsIn (passes tb)))
 
     -- they are as many as the pairs given back
     pub our-pairs-length : length (pairsOf (jobs tb) (partners tb)) ≡ pairs tb

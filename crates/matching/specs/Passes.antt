@@ -2,19 +2,20 @@
 use Prim.Native.Nat.{ℕ, zero, suc, _+_, _*_, _≤_, _<_}
 use mathlib.Core.Path.{_≡_, refl, sym, ap, _∙_}
 use mathlib.Core.Logic.{⊎-elim, _≢_}
-use mathlib.Core.Bool.{Bool, true}
+use mathlib.Core.Bool.{Bool, true, false≢true}
 use mathlib.Core.Option.{none, some}
 use mathlib.Core.List.{List, [], _∷_, List·Memᴰ as Mem, List·Memᴰ·head as here, List·Memᴰ·tail as there, List·Memᴰ·cases-cons as mem-cons, Memᴰ·cast as mem-cast}
 use native.Mathlib.Decide.{ℕ-discrete}
 use native.Mathlib.Omega.{arith}
 use lib.ListN.{length}
-use Rattle.model.specs.Lists.{indexOf, find, total, All, AllPairs, without}
+use Rattle.model.specs.Lists.{indexOf, anyOf, find, total, All, AllPairs, without}
 use Rattle.model.specs.Greedy.{Pass, pair, single, greedyStep, greedySteps, greedy}
-use Rattle.model.specs.Rival.{Pair}
+use Rattle.model.specs.Rival.{Pair, inPair}
 use Rattle.model.specs.Planning.{pairCount, singleCount}
 use Rattle.laws.specs.Lists.{Distinct, all-mem, mem-all, found-or-none, find-some}
 use Rattle.laws.specs.Places.{index-rises}
 use Rattle.laws.specs.Without.{without-mem, mem-without, without-pairwise, without-length, without-one}
+use Rattle.matching.specs.Matchings.{paired-cases}
 
 -- the pairs of the passes, in order
 unfoldable pub pairsIn : List Pass → List Pair
@@ -48,6 +49,16 @@ unfolding vertices total pairCount singleCount
 vertices-length [] = refl
 vertices-length (pair i j ∷ ps) = omega (arith, vertices-length ps)
 vertices-length (single i ∷ ps) = omega (arith, vertices-length ps)
+
+-- who is paired stands in a pass
+pub paired-vertex : (ps : List Pass) (z : ℕ) → inPair (pairsIn ps) z ≡ true → Mem z (vertices ps)
+unfolding pairsIn vertices
+paired-vertex [] z e = absurd (false≢true (unfold inPair anyOf in e))
+paired-vertex (pair i j ∷ ps) z e = ⊎-elim
+    (⊎-elim (λ (s : z ≡ i). here s) (λ (s : z ≡ j). there (here s)))
+    (λ (t : inPair (pairsIn ps) z ≡ true). there (there (paired-vertex ps z t)))
+    (paired-cases (record { one = i; other = j }) (pairsIn ps) z e)
+paired-vertex (single i ∷ ps) z e = there (paired-vertex ps z e)
 
 module _ (fit : ℕ → ℕ → Bool) where
   -- ---- the steps

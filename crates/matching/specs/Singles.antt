@@ -16,6 +16,7 @@ use Rattle.model.specs.Planning.{partners, pairs, singles}
 use Rattle.laws.specs.Numbers.{mem-numbers, numbers-distinct, numbers-length}
 use Rattle.laws.specs.Lists.{all-imply}
 use Rattle.laws.specs.Counting.{count-at, count-length-all}
+use Rattle.matching.specs.Matchings.{apart-paired}
 use Rattle.matching.specs.Partners.{jobs-counted, our-pairs, our-pairs-length}
 
 -- the job is neither of the pair
@@ -34,7 +35,7 @@ spared ps s j = not (eqb j s || inPair ps j)
 pub outside-alone : (ps : List Pair) (j : ℕ) → All (Outside j) ps → inPair ps j ≡ false
 unfolding inPair anyOf
 outside-alone [] j a = refl
-outside-alone (p ∷ ps) j a = rw (ne-eqb j (p .one) (a .0 .0), ne-eqb j (p .other) (a .0 .1)) (outside-alone ps j (a .1))
+outside-alone (p ∷ ps) j a = apart-paired p ps j (a .0 .0) (a .0 .1) ∙ outside-alone ps j (a .1)
 
 module _ (p : Pair) (ps : List Pair) (apart : All (NoCommonJob p) ps) where
   -- the two of a pair stand in no pair that has no job in common with it

@@ -1,18 +1,22 @@
 -- The worked tables (docs/RULES.md, 15): document 01's "Tables to try" that are marked ◆, planned as 2026-01 and 2026-02 ask, tables that tell wrong planners, tables with
--- windows, what is printed for some and for tables that 2026-04 and 2026-05 newly accept or refuse, and worked stretches: a table of examples, one of printings, one of
--- stretches, and one fact of the three.
-use Prim.Native.Nat.{ℕ}
+-- windows, what is printed for some and for tables that 2026-04 and 2026-05 newly accept or refuse, rivals beside our plans, and worked stretches: a table of examples, one of
+-- printings, one of rivals, one of stretches, and one fact of the four.
+use Prim.Native.Nat.{ℕ, suc}
 use mathlib.Core.Path.{_≡_, refl}
-use mathlib.Core.Bool.{Bool}
+use mathlib.Core.Logic.{_≢_}
+use mathlib.Core.Bool.{Bool, cond, not, xor}
+use mathlib.Core.Option.{Option, none, some}
 use mathlib.Core.List.{List, [], _∷_, _++_, map, flatMap, headD}
 use lib.ListN.{length, getD}
-use Rattle.model.specs.Lists.{numbersFrom, numbers, elem, indexOf, lastD, anyOf, allOf, select, countWhere, find, total, insertBy, sortBy, without}
+use lib.Dec.{T, eqb, ltb, T-not, ltb→lt, eqb-refl}
+use Rattle.model.specs.Lists.{numbersFrom, numbers, elem, indexOf, lastD, anyOf, allOf, select, countWhere, find, total, insertBy, sortBy, All, without}
 use Rattle.model.specs.Verdict.{Verdict, accepted, refused}
 use Rattle.model.specs.Tree.{FFFF, rightParent, layoutsFrom, treeVerdict, ascend, ancestors, ancestorOrSelf, depth, children, orSelf, leavesWithin, leaves, firstLeaf, lastLeaf}
 use Rattle.model.specs.Jobs.{Table, solo, sameWindow, upTo, pathFrom, path, ownPath, bare, asks, highest, highestDepth, shares, sharedLayouts, highestShared, deepestShared, bottomLeaf, jobVerdict}
 use Rattle.model.specs.Order.{earlier, runningOrder, place, leftward, windowJobs, windowSize, slotOrder, slot}
 use Rattle.model.specs.Greedy.{Pass, pair, single, greedyStep, greedySteps, greedy, compatible, passes}
 use Rattle.model.specs.Visits.{levelsFrom, levels, cellVisits, visits, asksFor, askedSlots, askedFrom, askedTo, lookupVisits, passVisits, cellCount}
+use Rattle.model.specs.Rival.{Pair, Rules, Rival, inFront, pairsInFront, pairsOf, inPair, pairedInOne, firstDifference}
 use Rattle.model.specs.Planning.{workCells, lentVerdict, jobsVerdict, planVerdict, partnerIn, pairCount, singleCount, partners, upper, upperLayouts, printed, printedLayouts, pairs, singles}
 use Rattle.model.specs.Table.{windowFrame, isDigit, digitValue, numberAfter, lead, lines, frameOfKind, frameOf, isEnd, beyondWindows, endWithoutLayout, onItsLine, contentVerdict, frameVerdict, extended, withOwnLine, unlessRefused, readFrame, readLines, readTable}
 use Rattle.model.specs.Output.{digit, hex, pairLine, singleLine, totalsLine, passLine, planBytes, refusalBytes, readingBytes, runBytes}
@@ -82,6 +86,30 @@ bakehouse =
       expected = plans ((4 ∷ 0 ∷ 3 ∷ 3 ∷ []) ∷ (1 ∷ []) ∷ (2 ∷ 3 ∷ 2 ∷ 2 ∷ []) ∷ []) (4 ∷ F ∷ 3 ∷ 2 ∷ 0 ∷ []) (3 ∷ F ∷ 2 ∷ 2 ∷ 3 ∷ []) (3 ∷ F ∷ 2 ∷ 2 ∷ 3 ∷ []) 2 1 0x19;
     }
 
+-- three jobs on a chain, the last of which shares with each of the two others, and these not with each other; the same numbered from the other end; and behind a job that is alone
+-- in its window
+earlierJob : Example
+earlierJob = record { parents = F ∷ 0 ∷ 1 ∷ 2 ∷ []; jobs = 3 to 3 ∷ 2 to 2 ∷ 1 to 3 ∷ []; expected = plans ((0 ∷ 2 ∷ 3 ∷ 3 ∷ []) ∷ (1 ∷ []) ∷ []) (2 ∷ F ∷ 0 ∷ []) (3 ∷ F ∷ 3 ∷ []) (3 ∷ F ∷ 3 ∷ []) 1 1 10 }
+
+numberedLast : Example
+numberedLast = record { parents = F ∷ 0 ∷ 1 ∷ 2 ∷ []; jobs = 1 to 3 ∷ 2 to 2 ∷ 3 to 3 ∷ []; expected = plans ((2 ∷ 0 ∷ 3 ∷ 3 ∷ []) ∷ (1 ∷ []) ∷ []) (2 ∷ F ∷ 0 ∷ []) (3 ∷ F ∷ 3 ∷ []) (3 ∷ F ∷ 3 ∷ []) 1 1 10 }
+
+aloneBefore : Example
+aloneBefore =
+    record {
+      parents = F ∷ 0 ∷ 1 ∷ 2 ∷ [];
+      jobs = 3 to 3 inWindow 1 ∷ 3 to 3 ∷ 2 to 2 ∷ 1 to 3 ∷ [];
+      expected = plans ((0 ∷ []) ∷ (1 ∷ 3 ∷ 3 ∷ 3 ∷ []) ∷ (2 ∷ []) ∷ []) (F ∷ 3 ∷ F ∷ 1 ∷ []) (F ∷ 3 ∷ F ∷ 3 ∷ []) (F ∷ 3 ∷ F ∷ 3 ∷ []) 1 2 11;
+    }
+
+fourAlike : Example
+fourAlike =
+    record {
+      parents = F ∷ 0 ∷ [];
+      jobs = 1 to 1 ∷ 1 to 1 ∷ 1 to 1 ∷ 1 to 1 ∷ [];
+      expected = plans ((0 ∷ 1 ∷ 1 ∷ 1 ∷ []) ∷ (2 ∷ 3 ∷ 1 ∷ 1 ∷ []) ∷ []) (1 ∷ 0 ∷ 3 ∷ 2 ∷ []) (1 ∷ 1 ∷ 1 ∷ 1 ∷ []) (1 ∷ 1 ∷ 1 ∷ 1 ∷ []) 2 0 2;
+    }
+
 examples : List Example
 examples =
     -- those marked ◆
@@ -147,6 +175,11 @@ examples =
     ∷ record { parents = F ∷ []; jobs = 0 soloTo 0 inWindow 255 ∷ 0 to 1 ∷ []; expected = turnsAway 9 0 }
     ∷ record { parents = F ∷ []; jobs = 0 to 1 inWindow 16 ∷ []; expected = turnsAway 5 0 }
     ∷ record { parents = F ∷ 0 ∷ []; jobs = 1 to 0 inWindow 16 ∷ []; expected = turnsAway 6 0 }
+    -- the earlier job gets the partner (2026-14): below, beside rivals
+    ∷ earlierJob
+    ∷ numberedLast
+    ∷ aloneBefore
+    ∷ fourAlike
     ∷ []
 
 -- ---- from bytes to bytes
@@ -263,6 +296,85 @@ printings =
     ∷ record { lines = firstLayout ∷ layoutUnder 0 ∷ jobOf 0 0 ∷ windowOf 1 0 0 1 ∷ endOf 2 2 ∷ []; spells = refusalOf 6 4 ∷ [] }
     ∷ []
 
+-- ---- rivals
+
+-- the first job that one of two plans has paired and the other single, and which of them has it paired; or there is none
+data Difference : Type 0 where
+  oursHas : ℕ → Difference
+  rivalHas : ℕ → Difference
+  nowhere : Difference
+
+difference : List Pair → Option ℕ → Difference
+difference our none = nowhere
+difference our (some j) = cond (inPair our j) (oursHas j) (rivalHas j)
+
+-- a rival plan for an example, the pairs in front of the cuts from 0 to M, ours and the rival's, and the first difference
+record Comparison : Type 0 where
+  example : Example
+  rival : List Pair
+  ours-in-front : List ℕ
+  rivals-in-front : List ℕ
+  first : Difference
+
+infix 70 _with_
+_with_ : ℕ → ℕ → Pair
+i with j = record { one = i; other = j }
+
+-- as many pairs in front of every cut as ours, but the first job in the running order single; the same numbered from the other end, and behind a job that is single in both; a job
+-- before the first difference that is paired in both; no pairs at all, and fewer pairs; and fewer in front of a cut alone, with the same jobs paired
+comparisons : List Comparison
+comparisons =
+    record { example = earlierJob; rival = 1 with 2 ∷ []; ours-in-front = 0 ∷ 0 ∷ 0 ∷ 1 ∷ []; rivals-in-front = 0 ∷ 0 ∷ 0 ∷ 1 ∷ []; first = oursHas 0 }
+    ∷ record { example = numberedLast; rival = 0 with 1 ∷ []; ours-in-front = 0 ∷ 0 ∷ 0 ∷ 1 ∷ []; rivals-in-front = 0 ∷ 0 ∷ 0 ∷ 1 ∷ []; first = oursHas 2 }
+    ∷ record { example = aloneBefore; rival = 2 with 3 ∷ []; ours-in-front = 0 ∷ 0 ∷ 0 ∷ 0 ∷ 1 ∷ []; rivals-in-front = 0 ∷ 0 ∷ 0 ∷ 0 ∷ 1 ∷ []; first = oursHas 1 }
+    ∷ record { example = bakehouse; rival = 4 with 1 ∷ 2 with 3 ∷ []; ours-in-front = 0 ∷ 0 ∷ 1 ∷ 1 ∷ 1 ∷ 2 ∷ []; rivals-in-front = 0 ∷ 0 ∷ 0 ∷ 1 ∷ 1 ∷ 2 ∷ []; first = oursHas 0 }
+    ∷ record { example = bakehouse; rival = []; ours-in-front = 0 ∷ 0 ∷ 1 ∷ 1 ∷ 1 ∷ 2 ∷ []; rivals-in-front = 0 ∷ 0 ∷ 0 ∷ 0 ∷ 0 ∷ 0 ∷ []; first = oursHas 4 }
+    ∷ record { example = fourAlike; rival = 0 with 1 ∷ []; ours-in-front = 0 ∷ 0 ∷ 1 ∷ 1 ∷ 2 ∷ []; rivals-in-front = 0 ∷ 0 ∷ 1 ∷ 1 ∷ 1 ∷ []; first = oursHas 2 }
+    ∷ record { example = fourAlike; rival = 0 with 3 ∷ 1 with 2 ∷ []; ours-in-front = 0 ∷ 0 ∷ 1 ∷ 1 ∷ 2 ∷ []; rivals-in-front = 0 ∷ 0 ∷ 0 ∷ 1 ∷ 2 ∷ []; first = nowhere }
+    ∷ []
+
+-- what the definitions make of the two plans
+compared : Comparison → Comparison
+compared c =
+    let tb = tableIn (c .example) in
+    let our = pairsOf (length (tb .tops)) (partners tb) in
+    let cuts = numbers (suc (length (tb .tops))) in
+    record { example = c .example; rival = c .rival; ours-in-front = map (λ (m : ℕ). pairsInFront tb m our) cuts; rivals-in-front = map (λ (m : ℕ). pairsInFront tb m (c .rival)) cuts; first = difference our (firstDifference tb our (c .rival)) }
+
+-- the rules of a pair, by their tests
+unequal : (i j : ℕ) → T (not (eqb i j)) → i ≢ j
+unequal i j t e = T-not (eqb i j) t (rw e (eqb-refl j))
+
+keeps : (tb : Table) (i j : ℕ) → T (ltb i (length (tb .tops))) → T (ltb j (length (tb .tops))) → T (not (eqb i j)) → T (not (solo tb i)) → T (not (solo tb j)) → T (sameWindow tb i j) → T (shares tb i j) → Rules tb (i with j)
+unfolding _with_
+keeps tb i j one other differ a b c d = record {
+  one-known = ltb→lt i (length (tb .tops)) one;
+  other-known = ltb→lt j (length (tb .tops)) other;
+  differ = unequal i j differ;
+  one-not-solo = a;
+  other-not-solo = b;
+  same-window = c;
+  share = d;
+}
+
+-- a rival of one pair, and of two
+one-pair : (tb : Table) (p : Pair) → Rules tb p → Rival tb (p ∷ [])
+one-pair tb p r = record { keep = (r, tt); once = (tt, tt) }
+
+two-pairs :
+    (tb : Table) (p q : Pair)
+    → Rules tb p
+    → Rules tb q
+    → T (not (eqb (p .one) (q .one)))
+    → T (not (eqb (p .one) (q .other)))
+    → T (not (eqb (p .other) (q .one)))
+    → T (not (eqb (p .other) (q .other)))
+    → Rival tb (p ∷ q ∷ [])
+two-pairs tb p q r s a b c d = record {
+  keep = (r, (s, tt));
+  once = ((record { one-one = unequal (p .one) (q .one) a; one-other = unequal (p .one) (q .other) b; other-one = unequal (p .other) (q .one) c; other-other = unequal (p .other) (q .other) d }, tt), (tt, tt));
+}
+
 -- ---- stretches
 
 -- two lists, and of their shared stretch the list that it begins, the cell of that list at which it starts, and its numbers
@@ -304,17 +416,26 @@ stretched e =
 
 -- ---- the fact
 
--- each table is planned or refused as expected, each printing is as spelled, each stretch is as written, the bakehouse has its running order and its slots, equal leaves by
--- place, the lookups of jobs 4, 1 and 2 visit 7, 7 and 11 cells, an empty span visits one cell, inside a shelf and at its ends, and window 16 is refusal 9 on every
--- line, whatever the table so far, the top and the bottom
+-- each table is planned or refused as expected, each printing is as spelled, each rival keeps the rules and compares as written, each stretch is as written, the bakehouse has its running
+-- order and its slots, equal leaves by place, the lookups of jobs 4, 1 and 2 visit 7, 7 and 11 cells, an empty span visits one cell, inside a shelf and at its ends, and window
+-- 16 is refusal 9 on every line, whatever the table so far, the top and the bottom
 examples-hold :
     (map planned examples ≡ map (λ (e : Example). e .expected) examples)
     × (map (λ (e : Printing). runBytes (flatMap spelled (e .lines))) printings ≡ map (λ (e : Printing). flatMap spelled (e .spells)) printings)
+    × All (λ (c : Comparison). Rival (tableIn (c .example)) (c .rival)) comparisons
+    × (map compared comparisons ≡ comparisons)
     × (map stretched stretches ≡ stretches)
     × (runningOrder (tableIn bakehouse) ≡ 4 ∷ 0 ∷ 1 ∷ 2 ∷ 3 ∷ [])
     × (map (slot (tableIn bakehouse)) (4 ∷ 0 ∷ 1 ∷ 2 ∷ 3 ∷ []) ≡ 0 ∷ 1 ∷ 2 ∷ 3 ∷ 4 ∷ [])
     × (map (lookupVisits (tableIn bakehouse)) (4 ∷ 1 ∷ 2 ∷ []) ≡ 7 ∷ 7 ∷ 11 ∷ [])
     × (map (λ (s : ℕ). visits 3 s s) (0 ∷ 3 ∷ 4 ∷ 8 ∷ []) ≡ 1 ∷ 1 ∷ 1 ∷ 1 ∷ [])
     × ((line : ℕ) (tb : Table) (own : List ℕ) (ended : Bool) (t b : ℕ) → frameVerdict line tb own ended (windowFrame t b 16) ≡ refused 9 line)
-unfolding numbersFrom numbers elem indexOf lastD anyOf allOf select countWhere find total insertBy sortBy rightParent layoutsFrom treeVerdict ascend ancestors ancestorOrSelf depth children orSelf leavesWithin leaves firstLeaf lastLeaf solo sameWindow upTo pathFrom path ownPath bare asks highest highestDepth shares sharedLayouts highestShared deepestShared bottomLeaf jobVerdict earlier runningOrder place leftward windowJobs windowSize slotOrder slot without greedyStep greedySteps greedy compatible passes levelsFrom levels cellVisits visits asksFor askedSlots askedFrom askedTo lookupVisits passVisits cellCount lentVerdict jobsVerdict planVerdict partnerIn pairCount singleCount partners upper upperLayouts printed printedLayouts pairs singles passNumbers outcome _to_ _soloTo_ _inWindow_ tableIn planned F bakehouse examples flatMap headD isDigit digitValue numberAfter lead lines frameOfKind frameOf isEnd beyondWindows endWithoutLayout onItsLine contentVerdict frameVerdict extended withOwnLine unlessRefused readFrame readLines readTable digit hex pairLine singleLine totalsLine passLine planBytes refusalBytes readingBytes runBytes spelled firstLayout layoutUnder jobOf soloOf windowOf endOf pairOf singleOf totalsOf refusalOf printings agreement startsIn leading stretchOf dropped stretched stretches
-examples-hold = (refl, refl, refl, refl, refl, refl, refl, λ line tb own ended t b. refl)
+unfolding numbersFrom numbers elem indexOf lastD anyOf allOf select countWhere find total insertBy sortBy rightParent layoutsFrom treeVerdict ascend ancestors ancestorOrSelf depth children orSelf leavesWithin leaves firstLeaf lastLeaf solo sameWindow upTo pathFrom path ownPath bare asks highest highestDepth shares sharedLayouts highestShared deepestShared bottomLeaf jobVerdict earlier runningOrder place leftward windowJobs windowSize slotOrder slot without greedyStep greedySteps greedy compatible passes levelsFrom levels cellVisits visits asksFor askedSlots askedFrom askedTo lookupVisits passVisits cellCount lentVerdict jobsVerdict planVerdict partnerIn pairCount singleCount partners upper upperLayouts printed printedLayouts pairs singles passNumbers outcome _to_ _soloTo_ _inWindow_ tableIn planned F bakehouse earlierJob numberedLast aloneBefore fourAlike examples flatMap headD isDigit digitValue numberAfter lead lines frameOfKind frameOf isEnd beyondWindows endWithoutLayout onItsLine contentVerdict frameVerdict extended withOwnLine unlessRefused readFrame readLines readTable digit hex pairLine singleLine totalsLine passLine planBytes refusalBytes readingBytes runBytes spelled firstLayout layoutUnder jobOf soloOf windowOf endOf pairOf singleOf totalsOf refusalOf printings xor inFront pairsInFront pairsOf inPair pairedInOne firstDifference difference _with_ comparisons compared agreement startsIn leading stretchOf dropped stretched stretches
+examples-hold =
+    let a = one-pair (tableIn earlierJob) (1 with 2) (keeps (tableIn earlierJob) 1 2 tt tt tt tt tt tt tt) in
+    let b = one-pair (tableIn numberedLast) (0 with 1) (keeps (tableIn numberedLast) 0 1 tt tt tt tt tt tt tt) in
+    let c = one-pair (tableIn aloneBefore) (2 with 3) (keeps (tableIn aloneBefore) 2 3 tt tt tt tt tt tt tt) in
+    let d = two-pairs (tableIn bakehouse) (4 with 1) (2 with 3) (keeps (tableIn bakehouse) 4 1 tt tt tt tt tt tt tt) (keeps (tableIn bakehouse) 2 3 tt tt tt tt tt tt tt) tt tt tt tt in
+    let e = one-pair (tableIn fourAlike) (0 with 1) (keeps (tableIn fourAlike) 0 1 tt tt tt tt tt tt tt) in
+    let f = two-pairs (tableIn fourAlike) (0 with 3) (1 with 2) (keeps (tableIn fourAlike) 0 3 tt tt tt tt tt tt tt) (keeps (tableIn fourAlike) 1 2 tt tt tt tt tt tt tt) tt tt tt tt in
+    (refl, refl, (a, (b, (c, (d, (record { keep = tt; once = tt }, (e, (f, tt))))))), refl, refl, refl, refl, refl, refl, λ line tb own ended t b. refl)

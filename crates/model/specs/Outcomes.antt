@@ -7,7 +7,7 @@ use Rattle.model.specs.Verdict.{Verdict, answer, lent}
 use Rattle.model.specs.Tree.{FFFF, depth, firstLeaf, lastLeaf, settleVerdict, settledCells}
 use Rattle.model.specs.Jobs.{Table, jobs, tableOf}
 use Rattle.model.specs.Visits.{cellCount}
-use Rattle.model.specs.Rival.{MaximumAtEveryCut}
+use Rattle.model.specs.Rival.{MaximumAtEveryCut, EarlierJobsPaired}
 use Rattle.model.specs.Planning as Planning
 use Rattle.model.specs.Table.{Reading, readTable, tableRead, buffersVerdict, readAnswer, readCells}
 use Rattle.model.specs.Output.{runLength, runOutput}
@@ -42,7 +42,8 @@ abbrev pub ReadOutcome : List ℕ → List ℕ → List ℕ → List ℕ → Lis
 ReadOutcome bytes parents tops bottoms marks windows =
     ReadAs (buffersVerdict (length parents) (length tops) (length bottoms) (length marks) (length windows)) (readTable bytes) parents tops bottoms marks windows
 
--- *Plan* under its verdict v: partners, upper and printed layouts, totals and work cells, and, where totals are given back, that no rival plan beats what was handed back
+-- *Plan* under its verdict v: partners, upper and printed layouts, totals and work cells, and, where totals are given back, that no rival plan beats what was handed back at any
+-- cut, and that beside any the first job that one has paired and the other single is paired in what was handed back
 pub record PlannedAs (v : Verdict) (tb : Table) (partners uppers printed work : List ℕ) (r : Planned) (partners′ uppers′ printed′ work′ : List ℕ) : Type 0 where
   pub answered : plannedAnswer r ≡ answer v (Planning.pairs tb ∷ Planning.singles tb ∷ cellCount tb ∷ [])
   pub partners-hold : partners′ ≡ lent v partners (Planning.partners tb ++ drop (jobs tb) partners)
@@ -50,6 +51,7 @@ pub record PlannedAs (v : Verdict) (tb : Table) (partners uppers printed work : 
   pub printed-hold : printed′ ≡ lent v printed (Planning.printedLayouts tb ++ drop (jobs tb) printed)
   pub work-holds : work′ ≡ lent v work (replicate Planning.workCells 0 ++ drop Planning.workCells work)
   pub maximum : (t : Totals) → r ≡ planned.Done t → MaximumAtEveryCut tb partners′ (t .pairs) (t .singles)
+  pub earlier-paired : (t : Totals) → r ≡ planned.Done t → EarlierJobsPaired tb partners′
 
 abbrev pub PlanOutcome : List ℕ → List ℕ → List ℕ → List ℕ → List ℕ → List ℕ → List ℕ → List ℕ → List ℕ → Planned → List ℕ → List ℕ → List ℕ → List ℕ → Type 0
 PlanOutcome parents tops bottoms marks windows partners uppers printed work =

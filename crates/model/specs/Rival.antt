@@ -1,16 +1,17 @@
--- Rival plans and the cut (docs/RULES.md, 14; document 01, "Rival plans and the cut", as 2026-05 changed it). A plan is here a set of pairs of job numbers: a matching of
--- the jobs in the graph of who is compatible with whom. A rival plan is any matching, a cut the end of a prefix of the running order.
+-- Rival plans and the cut (docs/RULES.md, 14; document 01, "Rival plans and the cut", as 2026-01 and 2026-05 changed it), and the earlier job (2026-14). A plan is here a set of pairs of
+-- job numbers: a matching of the jobs in the graph of who is compatible with whom. A rival plan is any matching, a cut the end of a prefix of the running order.
 use Prim.Native.Nat.{ℕ, _+_, _*_, _<_, _≤_}
 use mathlib.Core.Path.{_≡_}
 use mathlib.Core.Logic.{_≢_}
-use mathlib.Core.Bool.{Bool, not, _&&_, _||_}
+use mathlib.Core.Bool.{Bool, true, not, xor, _&&_, _||_}
+use mathlib.Core.Option.{Option, some}
 use mathlib.Core.List.{List, map}
 use lib.ListN.{length, getD}
 use lib.Dec.{T, eqb, ltb}
-use Rattle.model.specs.Lists.{numbers, All, AllPairs, anyOf, countWhere, select}
+use Rattle.model.specs.Lists.{numbers, All, AllPairs, anyOf, countWhere, find, select}
 use Rattle.model.specs.Tree.{FFFF}
 use Rattle.model.specs.Jobs.{Table, jobs, solo, sameWindow, shares}
-use Rattle.model.specs.Order.{place}
+use Rattle.model.specs.Order.{runningOrder, place}
 
 -- two job numbers
 pub record Pair : Type 0 where
@@ -80,3 +81,22 @@ pub record MaximumAtEveryCut (tb : Table) (partners : List ℕ) (pairs singles :
   pub passes-are : (rival : List Pair) → Rival tb rival → passesOf tb rival + length rival ≡ jobs tb
   pub our-passes : passesOf tb (pairsOf (jobs tb) partners) ≡ pairs + singles
   pub fewest : (rival : List Pair) → Rival tb rival → pairs + singles ≤ passesOf tb rival
+
+-- ---- the earlier job gets the partner (2026-14)
+
+-- one of two plans has the job paired and the other has it single
+unfoldable pub pairedInOne : List Pair → List Pair → ℕ → Bool
+pairedInOne ps qs j = xor (inPair ps j) (inPair qs j)
+
+-- going down the running order, the first such job
+unfoldable pub firstDifference : Table → List Pair → List Pair → Option ℕ
+firstDifference tb ps qs = find (pairedInOne ps qs) (runningOrder tb)
+
+-- beside any rival, of whatever number of pairs, the plan is the one that has this job paired, if there is such a job
+abbrev pub EarlierPaired : Table → List Pair → Type 0
+EarlierPaired tb plan = (rival : List Pair) → Rival tb rival → (j : ℕ) → firstDifference tb plan rival ≡ some j → inPair plan j ≡ true
+
+-- it holds of the plan in the partner buffer, which is a rival plan too (`keeps-rules`, above); and any rival plan of which it holds makes the fewest passes for the whole table
+pub record EarlierJobsPaired (tb : Table) (partners : List ℕ) : Type 0 where
+  pub ours : EarlierPaired tb (pairsOf (jobs tb) partners)
+  pub fewest : (plan : List Pair) → Rival tb plan → EarlierPaired tb plan → (rival : List Pair) → Rival tb rival → passesOf tb plan ≤ passesOf tb rival

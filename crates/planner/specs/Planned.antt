@@ -20,6 +20,7 @@ use Rattle.jobs.specs.Checks.{checkVerdict}
 use Rattle.jobs.specs.declared.JobCheck.{JobCheck}
 use Rattle.jobs.specs.declared.JobCheck.the-variants as check
 use Rattle.matching.specs.MaximumAtEveryCut.{our-plan-maximum}
+use Rattle.matching.specs.EarlierJobs.{earlier-jobs-paired}
 use Rattle.sweep_laws.specs.Room.{sweep-room}
 use Rattle.passes.specs.Making.{Roomy}
 use Rattle.passes.specs.PlanPass.{TotalsOf}
@@ -54,6 +55,7 @@ module _ (tb : Table) (partners uppers printed work : List ℕ) (r : Planned) wh
         printed-hold = rw e refl;
         work-holds = rw e refl;
         maximum = λ t done. let apart : _≡_ {A = ℕ} 0 1 = cc in absurd (omega arith);
+        earlier-paired = λ t done. let apart : _≡_ {A = ℕ} 0 1 = cc in absurd (omega arith);
       }
 
 -- the job check refuses
@@ -104,4 +106,5 @@ module _ (ps ts bs ms ws partners uppers printed work : List ℕ) (lent : Lent (
           printed-hold = rw (accepts, returned .printed-are) refl;
           work-holds = rw (accepts, f .work-is) refl;
           maximum = λ u done. let same : u ≡ totals = cc in rw (same, returned .partners-are, f .totals .pairs-are, f .totals .singles-are) (our-plan-maximum tb t (right .downward) few (drop (length ts) partners));
+          earlier-paired = λ u done. rw (returned .partners-are) (earlier-jobs-paired tb t (right .downward) few (drop (length ts) partners));
         }

@@ -9,7 +9,7 @@ use std::path::Path;
 use std::process::ExitCode;
 use tests::page::page;
 use tests::picture::answer::{planned_wrongly, product_answer};
-use tests::picture::{picture, planned_picture, Options};
+use tests::picture::{picture, planned_picture, Maker, Options};
 
 const USAGE: &str = "usage: picture [--cut M] [--page | --wrong NAME] [FILE]";
 
@@ -59,13 +59,13 @@ fn drawn(request: Request) -> Result<String, String> {
     let options = Options {
         name: name(request.file.as_deref()),
         cut: request.cut,
-        wrong: request.wrong,
+        maker: request.wrong.map_or(Maker::Product, Maker::Wrong),
     };
-    let drawn = match (&options.wrong, request.page) {
-        (Some(_), true) => return Err(USAGE.to_string()),
-        (Some(wrong), false) => planned_picture(&planned_wrongly(&bytes, wrong)?, &options),
-        (None, true) => return page(&bytes, &product_answer(&bytes)?, &options),
-        (None, false) => picture(&bytes, &product_answer(&bytes)?, &options),
+    let drawn = match (&options.maker, request.page) {
+        (Maker::Wrong(wrong), false) => planned_picture(&planned_wrongly(&bytes, wrong)?, &options),
+        (Maker::Product, true) => return page(&bytes, &product_answer(&bytes)?, &options),
+        (Maker::Product, false) => picture(&bytes, &product_answer(&bytes)?, &options),
+        _ => return Err(USAGE.to_string()),
     };
     drawn.map(|drawn| drawn.written())
 }

@@ -9,10 +9,13 @@ use tests::examples::{marked, named, telling, Example};
 use tests::made::mixtures::any_lines;
 use tests::made::tables::{table, table_of_size, Size};
 use tests::made::Generator;
-use tests::picture::answer::{planned, planned_wrongly, product_answer, Answer};
-use tests::picture::{is_legible, picture, planned_picture, Options, JOBS_DRAWN, LAYOUTS_DRAWN};
+use tests::picture::answer::{planned, planned_by_rival, planned_wrongly, product_answer, Answer};
+use tests::picture::planned::Planned;
+use tests::picture::{is_legible, picture, planned_picture, Maker, Options};
+use tests::picture::{JOBS_DRAWN, LAYOUTS_DRAWN};
 use tests::picture_checks::{check_picture, check_plan, size_to_draw, Ends, Expected};
 use tests::plan_checks::Planner;
+use tests::reference::rivals::Pair;
 use tests::reference::table::{read, table_lines};
 use tests::reference::{Table, JOB_LIMIT, LAYOUT_LIMIT};
 use tests::report::{same, Outcome, Report};
@@ -74,7 +77,9 @@ struct Stored {
 enum Shown {
     Product,
     Cut(usize),
-    Wrong(Mistake),
+    /// The plan of a wrong planner, or of a rival with these pairs, as it is worked out by hand.
+    Wrong(&'static str, ByHand),
+    Rival(&'static [Pair], ByHand),
 }
 
 /// The marked tables and those that tell wrong planners.
@@ -82,37 +87,41 @@ fn examples() -> impl Iterator<Item = Example> {
     marked().into_iter().chain(telling())
 }
 
-/// A wrong planner, with its order and its passes on the table, worked out by hand.
-struct Mistake {
-    planner: &'static str,
+/// The order and the passes of a plan that is not the product's.
+struct ByHand {
     order: &'static [usize],
     passes: &'static [(&'static [usize], Ends)],
 }
 
 /// Two branches below layout 1, by the shallowest highest layouts: it loses a pair.
-const SHALLOWEST: Mistake = Mistake {
-    planner: "the shallowest first",
+const SHALLOWEST: ByHand = ByHand {
     order: &[0, 1, 2, 3],
     passes: &[(&[0, 1], Some((1, 1))), (&[2], None), (&[3], None)],
 };
 
 /// Two jobs 0-1, by a loop that ends at count minus one: they run alone.
-const LAST_NOT_OFFERED: Mistake = Mistake {
-    planner: "the last job never offered",
+const LAST_NOT_OFFERED: ByHand = ByHand {
     order: &[0, 1],
     passes: &[(&[0], None), (&[1], None)],
+};
+
+/// Three jobs on a chain, the later two paired: as few passes, but the first job is alone.
+const EARLIER_ALONE: ByHand = ByHand {
+    order: &[0, 1, 2],
+    passes: &[(&[0], None), (&[1, 2], Some((2, 2)))],
 };
 
 const fn stored(file: &'static str, table: &'static str, shown: Shown) -> Stored {
     Stored { file, table, shown }
 }
 
-const STORED: [Stored; 14] = [
+const STORED: [Stored; 16] = [
     stored("examples/added-layout", "added-layout", Shown::Product),
     stored("examples/bakehouse", "bakehouse", Shown::Product),
     stored("examples/bakehouse-cut-3", "bakehouse", Shown::Cut(3)),
     stored("examples/bare-sheet", "bare-sheet", Shown::Product),
     stored("examples/both-ends", "both-ends", Shown::Product),
+    stored("examples/earlier-job", "earlier-job", Shown::Product),
     stored("examples/exchanged", "exchanged", Shown::Product),
     stored("examples/first-partner", "first-partner", Shown::Product),
     stored("examples/no-jobs", "no-jobs", Shown::Product),
@@ -123,12 +132,17 @@ const STORED: [Stored; 14] = [
     stored(
         "docs/pictures/shallowest-first",
         "two-branches",
-        Shown::Wrong(SHALLOWEST),
+        Shown::Wrong("the shallowest first", SHALLOWEST),
     ),
     stored(
         "docs/pictures/last-not-offered",
         "two-jobs",
-        Shown::Wrong(LAST_NOT_OFFERED),
+        Shown::Wrong("the last job never offered", LAST_NOT_OFFERED),
+    ),
+    stored(
+        "docs/pictures/earlier-job-alone",
+        "earlier-job",
+        Shown::Rival(&[(1, 2)], EARLIER_ALONE),
     ),
 ];
 
@@ -148,7 +162,13 @@ impl Stored {
         match &self.shown {
             Shown::Product => Ok(draw(&bytes, self.table, None)?.picture),
             Shown::Cut(cut) => Ok(draw(&bytes, self.table, Some(*cut))?.picture),
-            Shown::Wrong(mistake) => draw_wrong(&bytes, self.table, mistake.planner),
+            Shown::Wrong(planner, _) => {
+                let maker = Maker::Wrong(planner.to_string());
+                draw_other(planned_wrongly(&bytes, planner)?, self.table, maker)
+            }
+            Shown::Rival(pairs, _) => {
+                draw_other(planned_by_rival(&bytes, pairs)?, self.table, Maker::Rival)
+            }
         }
     }
 
@@ -158,12 +178,14 @@ impl Stored {
         match &self.shown {
             Shown::Product => check_picture(picture, &bytes, None, true),
             Shown::Cut(cut) => check_picture(picture, &bytes, Some(*cut), true),
-            Shown::Wrong(mistake) => check_plan(picture, &mistake.expected(&bytes)?),
+            Shown::Wrong(_, plan) | Shown::Rival(_, plan) => {
+                check_plan(picture, &plan.expected(&bytes)?)
+            }
         }
     }
 }
 
-impl Mistake {
+impl ByHand {
     fn expected(&self, bytes: &[u8]) -> Result<Expected, String> {
         let passes = self.passes.iter();
         Ok(Expected {
@@ -213,7 +235,7 @@ fn draw(bytes: &[u8], name: &str, cut: Option<usize>) -> Result<Drawn, String> {
     let options = Options {
         name: name.to_string(),
         cut,
-        wrong: None,
+        maker: Maker::Product,
     };
     Ok(Drawn {
         picture: picture(bytes, &answer, &options)?.written(),
@@ -221,13 +243,12 @@ fn draw(bytes: &[u8], name: &str, cut: Option<usize>) -> Result<Drawn, String> {
     })
 }
 
-fn draw_wrong(bytes: &[u8], name: &str, planner: &str) -> Result<String, String> {
+fn draw_other(planned: Planned, name: &str, maker: Maker) -> Result<String, String> {
     let options = Options {
         name: name.to_string(),
         cut: None,
-        wrong: Some(planner.to_string()),
+        maker,
     };
-    let planned = planned_wrongly(bytes, planner)?;
     planned_picture(&planned, &options).map(|drawn| drawn.written())
 }
 
@@ -269,7 +290,7 @@ fn not_drawn(planner: &WrongPlanner) -> Outcome {
 }
 
 /// Of the wrong planners, some pair jobs that do not share, that are solo or of two windows, and one
-/// refuses: none of these can be drawn.
+/// refuses: none of these can be drawn, and no rival that breaks the rules.
 fn rule_breakers() -> Outcome {
     for (planner, table) in [
         ("spans without depths", "above the highest layout"),
@@ -282,7 +303,9 @@ fn rule_breakers() -> Outcome {
         let bytes = table_lines(&named(table)?.table).concat();
         same(planner, planned_wrongly(&bytes, planner).is_err(), true)?;
     }
-    Ok(())
+    let bytes = table_lines(&named("the earlier job")?.table).concat();
+    let rival = planned_by_rival(&bytes, &[(0, 1)]);
+    same("a rival of jobs that do not share", rival.is_err(), true)
 }
 
 fn limit_size(generator: &mut Generator) -> Size {

@@ -7,13 +7,18 @@ use std::path::PathBuf;
 use std::process::ExitCode;
 use tests::both_ends::{self, downward};
 use tests::by_hand;
+use tests::earlier_checks::{
+    caught_where_other_jobs, compared_as_said, leaves_earlier, EARLIER_LEFT,
+};
+use tests::earlier_paired::{self, Told};
 use tests::examples::{
     bakehouse, in_turn, lent, marked, named, telling, Begins, Said, Stretch, BAKEHOUSE_BYTES,
-    BAKEHOUSE_LOOKUPS, BAKEHOUSE_ORDER, BAKEHOUSE_PLAN, PRINTINGS, READINGS, STRETCHES,
+    BAKEHOUSE_LOOKUPS, BAKEHOUSE_ORDER, BAKEHOUSE_PLAN, COMPARISONS, PRINTINGS, READINGS,
+    STRETCHES,
 };
 use tests::forbidden::Search;
 use tests::made::mixtures::any_lines;
-use tests::made::tables::{table, table_for_search, table_of_size, Size};
+use tests::made::tables::{table, table_for_search, table_of_size, table_with_rivals, Size};
 use tests::made::windows::{any_spread, spread_solo_jobs};
 use tests::made::Generator;
 use tests::plan_checks::{check_example, small_tables, small_windows, Planner};
@@ -52,6 +57,9 @@ fn main() -> ExitCode {
     report.listed("tables as printed", PRINTINGS, |(bytes, printed)| {
         same("lines", run(bytes), printed.to_vec())
     });
+    report.listed("rivals worked by hand", COMPARISONS, |comparison| {
+        compared_as_said(&comparison)
+    });
     report.listed("stretches worked by hand", STRETCHES, |stretch| {
         stretch_as_said(&stretch)
     });
@@ -61,18 +69,29 @@ fn main() -> ExitCode {
     report.listed("visits of every span", spans(), visits_within_bound);
     report.made("a shelf beside a plain list", 2_000, shelf_as_list);
     let tables = small_tables().into_iter().chain(small_windows());
-    report.listed("most pairs of every small table", tables, |table| {
+    report.listed("every rival of every small table", tables, |table| {
         let plan = searched_plan(&search, &table);
         both_ends::check(&table, plan.results())?;
-        best_at_every_cut(&table, &plan)
+        best_beside_rivals(&table, &plan)
     });
     report.made("both ends of what pairs share", 3_000, |generator| {
         let table = table(generator);
         both_ends::check(&table, plan_of(&table).results())
     });
-    report.made("most pairs at every cut", 20_000, |generator| {
+    report.made("every rival, at every cut", 20_000, |generator| {
         let table = table_for_search(generator);
-        best_at_every_cut(&table, &searched_plan(&search, &table))
+        best_beside_rivals(&table, &searched_plan(&search, &table))
+    });
+    let mut told = Told::default();
+    report.made("many rivals", 10_000, |generator| {
+        let table = table_with_rivals(generator);
+        let plan = searched_plan(&search, &table);
+        told.add(&table, &pairs_of(&plan.partners));
+        best_beside_rivals(&table, &plan)
+    });
+    report.listed("rivals of each kind", [()], |()| {
+        println!("reference: {told}");
+        told.some_of_each()
     });
     report.made("unbroken spans", 2_000, |generator| {
         unbroken_spans(&table(generator).parents)
@@ -101,6 +120,15 @@ fn main() -> ExitCode {
     });
     report.listed("wrong planners", wrong_planners(), |planner| {
         caught(&planner)
+    });
+    report.listed("an earlier job left single", EARLIER_LEFT, |left| {
+        leaves_earlier(&left)
+    });
+    report.made("who leaves an earlier job single", 3_000, |generator| {
+        let table = table_with_rivals(generator);
+        EARLIER_LEFT
+            .iter()
+            .try_for_each(|left| caught_where_other_jobs(left, &table))
     });
     report.nothing_forbidden(&search);
     report.listed("the search for layout 0", [()], |()| search_finds());
@@ -151,11 +179,12 @@ fn bakehouse_as_printed() -> Outcome {
 }
 
 /// The tables in `examples`, with their plans beside them.
-const EXAMPLE_FILES: [&str; 11] = [
+const EXAMPLE_FILES: [&str; 12] = [
     "added-layout",
     "bakehouse",
     "bare-sheet",
     "both-ends",
+    "earlier-job",
     "exchanged",
     "first-partner",
     "no-jobs",
@@ -272,13 +301,14 @@ fn searched_plan(search: &Search, table: &Table) -> Plan {
     plan
 }
 
-/// Our pairs keep the rules and are the most in front of every cut.
-fn best_at_every_cut(table: &Table, plan: &Plan) -> Outcome {
+/// Our pairs keep the rules and are the most in front of every cut, and the earlier job gets the partner.
+fn best_beside_rivals(table: &Table, plan: &Plan) -> Outcome {
     let pairs = pairs_of(&plan.partners);
     keeps_rules(table, &pairs)?;
     same("pairs", pairs.len(), usize::from(plan.totals.pairs))?;
     let ours = pairs_before_cuts(table, &pairs);
-    same("pairs in front of the cuts", ours, most_before_cuts(table))
+    same("pairs in front of the cuts", ours, most_before_cuts(table))?;
+    earlier_paired::check(table, &pairs)
 }
 
 /// A table with jobs of all kinds in windows.

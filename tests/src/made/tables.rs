@@ -119,6 +119,18 @@ pub fn table_for_search(generator: &mut Generator) -> Table {
     table
 }
 
+/// Four to eight jobs that nothing but their paths keeps apart, on a small and deep tree: most have many
+/// partners to choose from, so there are many rivals.
+pub fn table_with_rivals(generator: &mut Generator) -> Table {
+    let size = Size {
+        layouts: generator.between(2, 6),
+        jobs: generator.between(4, 8),
+    };
+    let shape = generator.choice(&[Shape::Chain, Shape::Caterpillar, Shape::Deep]);
+    let reach = generator.choice(&[Reach::Any, Reach::Short]);
+    table_of_shape(shape, reach, size, generator)
+}
+
 /// Gives some of the jobs top 0, and some top and bottom 0: in a large tree few are made so by
 /// themselves.
 fn raise_tops(table: &mut Table, generator: &mut Generator) {

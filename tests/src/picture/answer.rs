@@ -4,12 +4,12 @@
 use super::planned::Planned;
 use crate::library;
 use crate::plan_checks::{plan_by, Planner};
-use crate::reference::plan::{plan, running_order, Room};
-use crate::reference::rivals::{keeps_rules, pairs_of};
+use crate::reference::plan::{plan, running_order, with_totals, Room};
+use crate::reference::rivals::{keeps_rules, pairs_of, Pair};
 use crate::reference::run;
 use crate::reference::table::read;
 use crate::reference::{Refusal, Table, JOB_LIMIT, LAYOUT_LIMIT, OUTPUT_BYTES};
-use crate::wrong_planners::wrong_planners;
+use crate::wrong_planners::wrong_planner;
 
 pub enum Answer {
     Planned(Planned),
@@ -33,7 +33,7 @@ pub fn product_answer(bytes: &[u8]) -> Result<Answer, String> {
 pub fn planned(table: Table, planner: Planner) -> Result<Planned, String> {
     let answer = plan_by(planner, &table);
     agree("plan", &answer, &plan(&table, Room::exact(&table)))?;
-    let plan = answer.map_err(|refusal| format!("refused: {refusal:?}"))?;
+    let plan = answer.map_err(in_words)?;
     let order = running_order(&table);
     Ok(Planned::new(table, plan, order))
 }
@@ -41,16 +41,30 @@ pub fn planned(table: Table, planner: Planner) -> Result<Planned, String> {
 /// A table with the plan of one of the wrong planners, in the order that it goes by. A plan that
 /// breaks the rules of a plan cannot be drawn.
 pub fn planned_wrongly(bytes: &[u8], name: &str) -> Result<Planned, String> {
-    let refused = |refusal: Refusal| format!("refused: {refusal:?}");
-    let wrong = wrong_planners()
-        .into_iter()
-        .find(|planner| planner.name == name);
-    let planner = wrong.ok_or_else(|| format!("no wrong planner is named {name:?}"))?;
-    let table = read(bytes).map_err(refused)?;
-    let plan = (planner.plan)(&table).map_err(refused)?;
+    let planner = wrong_planner(name)?;
+    let table = read(bytes).map_err(in_words)?;
+    let plan = (planner.plan)(&table).map_err(in_words)?;
     keeps_rules(&table, &pairs_of(&plan.partners))?;
     let order = (planner.order)(&table);
     Ok(Planned::new(table, plan, order))
+}
+
+/// A table with a rival plan, in the running order. A rival makes no lookup, so it has no cell count.
+pub fn planned_by_rival(bytes: &[u8], pairs: &[Pair]) -> Result<Planned, String> {
+    let table = read(bytes).map_err(in_words)?;
+    keeps_rules(&table, pairs)?;
+    let mut partners = vec![None; table.jobs()];
+    for &(job, other) in pairs {
+        partners[job] = Some(other);
+        partners[other] = Some(job);
+    }
+    let plan = with_totals(&table, partners, 0);
+    let order = running_order(&table);
+    Ok(Planned::new(table, plan, order))
+}
+
+fn in_words(refusal: Refusal) -> String {
+    format!("refused: {refusal:?}")
 }
 
 fn read_by_product(bytes: &[u8]) -> Result<Table, Refusal> {

@@ -44,8 +44,17 @@ pub struct Options {
     pub name: String,
     /// A cut of the running order.
     pub cut: Option<usize>,
-    /// The wrong planner whose plan it is.
-    pub wrong: Option<String>,
+    pub maker: Maker,
+}
+
+/// Whose plan it is.
+#[derive(Clone, Default)]
+pub enum Maker {
+    #[default]
+    Product,
+    /// One of the wrong planners, by its name.
+    Wrong(String),
+    Rival,
 }
 
 /// The picture of a product's answer, or why there is none.
@@ -137,10 +146,14 @@ fn passes_alone(planned: &Planned, options: &Options) -> Element {
     sheet.finish()
 }
 
-/// That nobody takes a wrong planner's plan for the product's.
+/// That nobody takes another's plan for the product's.
 fn warning(options: &Options) -> Option<String> {
-    let wrong = options.wrong.as_ref();
-    wrong.map(|name| format!("Not the product's plan: {name}."))
+    let maker = match &options.maker {
+        Maker::Product => return None,
+        Maker::Wrong(name) => name,
+        Maker::Rival => "a rival's",
+    };
+    Some(format!("Not the product's plan: {maker}."))
 }
 
 pub fn refused_title(options: &Options) -> String {
@@ -148,10 +161,12 @@ pub fn refused_title(options: &Options) -> String {
 }
 
 pub fn title(options: &Options) -> String {
-    match options.wrong {
-        Some(_) => format!("A wrong plan of {}", options.name),
-        None => format!("Plan of {}", options.name),
-    }
+    let plan = match options.maker {
+        Maker::Product => "Plan",
+        Maker::Wrong(_) => "A wrong plan",
+        Maker::Rival => "A rival plan",
+    };
+    format!("{plan} of {}", options.name)
 }
 
 fn add_legend(sheet: &mut Sheet, planned: &Planned, with_tree: bool) {

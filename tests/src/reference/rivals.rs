@@ -1,5 +1,5 @@
 //! Rival plans (document 01, "Rival plans and the cut"; 2026-05: they keep the windows too): their
-//! rules, and by exhaustive search how many pairs one can have in front of a cut.
+//! rules, every one of them, and by exhaustive search how many pairs one can have in front of a cut.
 
 use super::paths::{own_paths, Path};
 use super::plan::running_order;
@@ -52,6 +52,31 @@ fn may_pair(table: &Table, paths: &[Path], job: usize, other: usize) -> bool {
     !solo && table.same_window(job, other) && paths[job].meets(&paths[other])
 }
 
+/// Every rival plan of a table, the empty one among them.
+pub fn every_rival(table: &Table) -> Vec<Vec<Pair>> {
+    let jobs: Vec<usize> = (0..table.jobs()).collect();
+    let paths = own_paths(table);
+    rivals_among(&jobs, &|job, other| may_pair(table, &paths, job, other))
+}
+
+/// Every set of pairs among some jobs: the first is alone, or with any of the others.
+fn rivals_among(jobs: &[usize], may_pair: &dyn Fn(usize, usize) -> bool) -> Vec<Vec<Pair>> {
+    let Some((&first, others)) = jobs.split_first() else {
+        return vec![Vec::new()];
+    };
+    let mut rivals = rivals_among(others, may_pair);
+    for (at, &other) in others.iter().enumerate() {
+        if may_pair(first, other) {
+            let rest = [&others[..at], &others[at + 1..]].concat();
+            for mut pairs in rivals_among(&rest, may_pair) {
+                pairs.push((first, other));
+                rivals.push(pairs);
+            }
+        }
+    }
+    rivals
+}
+
 /// How many pairs lie in front of each cut, from cut 0 to cut M.
 pub fn pairs_before_cuts(table: &Table, pairs: &[Pair]) -> Vec<usize> {
     let mut ranks = vec![0; table.jobs()];
@@ -69,22 +94,9 @@ pub fn most_before_cuts(table: &Table) -> Vec<usize> {
     let order = running_order(table);
     let paths = own_paths(table);
     let may_pair = |job: usize, other: usize| may_pair(table, &paths, job, other);
-    (0..=table.jobs())
-        .map(|cut| most_pairs(&order[..cut], &may_pair))
-        .collect()
-}
-
-/// The most pairs among some jobs: the first is alone, or with any of the others.
-fn most_pairs(jobs: &[usize], may_pair: &dyn Fn(usize, usize) -> bool) -> usize {
-    let Some((&first, others)) = jobs.split_first() else {
-        return 0;
+    let most = |cut: usize| {
+        let rivals = rivals_among(&order[..cut], &may_pair);
+        rivals.iter().map(Vec::len).max().unwrap_or(0)
     };
-    let mut most = most_pairs(others, may_pair);
-    for (at, &other) in others.iter().enumerate() {
-        if may_pair(first, other) {
-            let rest = [&others[..at], &others[at + 1..]].concat();
-            most = most.max(1 + most_pairs(&rest, may_pair));
-        }
-    }
-    most
+    (0..=table.jobs()).map(most).collect()
 }

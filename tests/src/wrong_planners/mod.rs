@@ -1,6 +1,6 @@
 //! The planners that document 01 says must not get through ("Plans that look fine"), and those that
-//! mistake layout 0, a solo mark, a tie, an end of what a pair shares or a window, each with the table
-//! that catches it.
+//! mistake layout 0, a solo mark, the order, a tie, an end of what a pair shares or a window, each with the
+//! table that catches it.
 //! The checks of *Plan* are tried on them: a check that accepts one of these checks nothing.
 
 mod windows;
@@ -85,6 +85,14 @@ fn wrong_count(
     }
 }
 
+/// One of the wrong planners by its name.
+pub fn wrong_planner(name: &str) -> Result<WrongPlanner, String> {
+    let found = wrong_planners()
+        .into_iter()
+        .find(|planner| planner.name == name);
+    found.ok_or_else(|| format!("no wrong planner is named {name:?}"))
+}
+
 pub fn wrong_planners() -> Vec<WrongPlanner> {
     let mut planners = planners_of_document_01();
     planners.extend(planners_of_the_bare_sheet());
@@ -95,6 +103,14 @@ pub fn wrong_planners() -> Vec<WrongPlanner> {
         "a solo job that could share",
         marks_ignored,
     ));
+    planners.push(WrongPlanner {
+        order: numbers_in_order,
+        ..wrong(
+            "in the order of job numbers",
+            "the earlier job numbered last",
+            by_job_number,
+        )
+    });
     planners.push(WrongPlanner {
         order: greater_numbers_first,
         ..wrong(
@@ -249,6 +265,15 @@ fn greater_numbers_first(table: &Table) -> Vec<usize> {
 
 fn ties_by_greater_number(table: &Table) -> Result<Plan, Refusal> {
     let order = greater_numbers_first(table);
+    Ok(greedy_by(table, &order, |candidates| candidates.first()))
+}
+
+fn numbers_in_order(table: &Table) -> Vec<usize> {
+    (0..table.jobs()).collect()
+}
+
+fn by_job_number(table: &Table) -> Result<Plan, Refusal> {
+    let order = numbers_in_order(table);
     Ok(greedy_by(table, &order, |candidates| candidates.first()))
 }
 
