@@ -1,4 +1,4 @@
-/* Murdzeki: passes for two-lane label presses. Table and plan lines are described in docs/FORMAT.md. */
+/* Murdzeki: passes for label presses with two lanes and more. Table and plan lines are described in docs/FORMAT.md. */
 #ifndef MURDZEKI_H
 #define MURDZEKI_H
 
@@ -9,7 +9,7 @@
 extern "C" {
 #endif
 
-/* Bytes of output that murdzeki_plan needs. */
+/* Bytes of output that each call needs. */
 #define MURDZEKI_OUTPUT 40960
 
 /*
@@ -25,6 +25,15 @@ extern "C" {
  * and no other memory, always ends, keeps no state, and can be made from several threads at once.
  */
 size_t murdzeki_plan(const uint8_t *input, size_t input_length, uint8_t *output, size_t output_length);
+
+/*
+ * Groups the jobs of a table, as murdzeki_plan reads it, for a press with `lanes` lanes, 2 to 8, that takes full passes alone: each job in one group of `lanes`
+ * jobs, all in one printing window, none of them solo, with a layout other than 0 that suits all of them. Writes a line 13 for each group, its
+ * jobs in running order and the deepest layout that suits all, and a line 1F with the number of groups; or one refusal line: 1E0D0000 if
+ * `lanes` is below 2 or above 8, else that of a table that cannot be read, else 1E0E0000 exactly if the jobs cannot be grouped so in any way.
+ * Every `lanes` is answered. What is returned, the zeros, the buffers, the stack and threads are as for murdzeki_plan.
+ */
+size_t murdzeki_group(const uint8_t *input, size_t input_length, uint8_t *output, size_t output_length, size_t lanes);
 
 #ifdef __cplusplus
 }

@@ -32,7 +32,7 @@ pub struct Example {
 const F: u16 = ABSENT;
 
 /// A job by top and bottom, in window 0 or in the one given first.
-enum Job {
+pub enum Job {
     Plain(u16, u16),
     Solo(u16, u16),
     In(u8, u16, u16),
@@ -42,6 +42,11 @@ enum Job {
 use Job::{In, Plain, Solo, SoloIn};
 
 fn example(name: &'static str, parents: &[u16], jobs: &[Job], said: Said) -> Example {
+    let table = table_of(parents, jobs);
+    Example { name, table, said }
+}
+
+pub fn table_of(parents: &[u16], jobs: &[Job]) -> Table {
     let mut table = Table {
         parents: parents.to_vec(),
         ..Table::default()
@@ -54,7 +59,7 @@ fn example(name: &'static str, parents: &[u16], jobs: &[Job], said: Said) -> Exa
             SoloIn(window, top, bottom) => table.add_job_in(window, top, bottom, 1),
         }
     }
-    Example { name, table, said }
+    table
 }
 
 fn planned(pairs: &[Pair], visits: u32) -> Said {

@@ -1,5 +1,5 @@
-//! The proved operations: through the static library of the crate `harness`, and the whole run as
-//! the product exports it. None of them asks anything of its caller, so each wrapper only takes the
+//! The proved operations: through the static library of the crate `harness`, and the two whole runs as
+//! the product exports them. None of them asks anything of its caller, so each wrapper only takes the
 //! packed answer apart.
 
 use crate::reference::plan;
@@ -68,6 +68,14 @@ extern "C" {
         input_length: usize,
         output: *mut u8,
         output_length: usize,
+    ) -> usize;
+
+    fn murdzeki_group(
+        input: *const u8,
+        input_length: usize,
+        output: *mut u8,
+        output_length: usize,
+        lanes: usize,
     ) -> usize;
 }
 
@@ -187,6 +195,19 @@ pub fn run(input: &[u8], output: &mut [u8]) -> usize {
             input.len(),
             output.as_mut_ptr(),
             output.len(),
+        )
+    }
+}
+
+/// The second whole run, for a press with so many lanes.
+pub fn group(input: &[u8], output: &mut [u8], lanes: usize) -> usize {
+    unsafe {
+        murdzeki_group(
+            input.as_ptr(),
+            input.len(),
+            output.as_mut_ptr(),
+            output.len(),
+            lanes,
         )
     }
 }

@@ -10,6 +10,7 @@ use crate::forbidden::Search;
 use crate::lent::Lent;
 use crate::made::borders::borders;
 use crate::made::damage::window_beyond;
+use crate::made::small::parent_lists;
 use crate::made::tables::{
     any_parents, path, table, table_for_search, table_of_size, table_with_rivals, tables_spread,
 };
@@ -448,17 +449,6 @@ fn tables_of(layouts: u16, kinds: &[(u8, u8)]) -> Vec<Table> {
         add_jobs(&table, 3, kinds, &mut tables);
     }
     tables
-}
-
-fn parent_lists(layouts: u16) -> Vec<Vec<u16>> {
-    let mut lists = vec![vec![ABSENT]];
-    for layout in 1..layouts {
-        lists = lists
-            .iter()
-            .flat_map(|list| (0..layout).map(|parent| [list.as_slice(), &[parent]].concat()))
-            .collect();
-    }
-    lists
 }
 
 /// The table itself, and with up to `jobs` jobs more of every kind.

@@ -152,6 +152,13 @@ impl Report {
         }
     }
 
+    /// What was found, in words, where all groups run.
+    pub fn note(&self, words: &str) {
+        if self.only.is_none() {
+            println!("{}: {words}", self.program);
+        }
+    }
+
     pub fn finish(self) -> ExitCode {
         println!("{} passed, {} failed", self.passed, self.failed);
         if self.failed == 0 && self.passed > 0 {

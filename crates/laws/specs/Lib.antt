@@ -10,3 +10,4 @@ pub mod Places
 pub mod Sorting
 pub mod Levels
 pub mod Least
+pub mod Firsts

@@ -39,11 +39,17 @@ pub mem-split : {y : ℕ} {l : List ℕ} → Mem y l → (done : List ℕ) × (r
 mem-split (here {x = x} {xs = xs} e) = ([], xs, ap (λ (z : ℕ). z ∷ xs) (sym e))
 mem-split (there {x = x} {xs = xs} m) = let s = mem-split m in (x ∷ s .0, s .1, ap (λ (l : List ℕ). x ∷ l) (s .2))
 
--- what stands at a place of a list is a member of it
-pub getD-mem : (l : List ℕ) (i d : ℕ) → i < length l → Mem (getD l i d) l
-getD-mem [] i d h = absurd (omega arith)
-getD-mem (x ∷ xs) zero d h = here refl
-getD-mem (x ∷ xs) (suc i) d h = there (getD-mem xs i d (omega arith))
+module _ {A : Type 0} where
+  -- what stands at a place of a list is a member of it
+  pub getD-mem : (l : List A) (i : ℕ) (d : A) → i < length l → Mem (getD l i d) l
+  getD-mem [] i d h = absurd (omega arith)
+  getD-mem (x ∷ xs) zero d h = here refl
+  getD-mem (x ∷ xs) (suc i) d h = there (getD-mem xs i d (omega arith))
+
+  -- what holds at every place holds of all
+  pub at-all : (P : A → Type 0) (l : List A) (d : A) → ((i : ℕ) → i < length l → P (getD l i d)) → All P l
+  at-all P [] d h = tt
+  at-all P (x ∷ xs) d h = (h 0 (omega arith), at-all P xs d (λ i l. h (suc i) (omega arith)))
 
 -- a list with a member has a head, which is a member too
 pub head-mem : {y : ℕ} {l : List ℕ} (d : ℕ) → Mem y l → Mem (headD l d) l
@@ -215,6 +221,12 @@ pub flat-append : {A : Type 0} (f : A → List ℕ) (l m : List A) → flatMap f
 unfolding flatMap
 flat-append f [] m = refl
 flat-append f (x ∷ xs) m = rw (flat-append f xs m) (sym (append-assoc (f x) (flatMap f xs) (flatMap f m)))
+
+-- of what f makes of the members
+pub flat-map : {A B : Type 0} (g : B → List ℕ) (f : A → B) (l : List A) → flatMap g (map f l) ≡ flatMap (λ (x : A). g (f x)) l
+unfolding flatMap
+flat-map g f [] = refl
+flat-map g f (x ∷ xs) = ap (λ (m : List ℕ). g (f x) ++ m) (flat-map g f xs)
 
 -- one member more
 pub flat-more : {A : Type 0} (f : A → List ℕ) (l : List A) (x : A) → flatMap f (l ++ x ∷ []) ≡ flatMap f l ++ f x

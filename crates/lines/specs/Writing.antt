@@ -8,7 +8,7 @@ use lib.ListN.{length, take, getD, set, replicate, length-set, replicate-append-
 use lib.Seq.{take-suc-set, take-all, length-take-le}
 use Rattle.model.specs.Lists.{numbers, numbersFrom}
 use Rattle.model.specs.Verdict.{padded}
-use Rattle.model.specs.Output.{digit, hex, pairLine, singleLine, totalsLine, refusalBytes}
+use Rattle.model.specs.Output.{digit, hex, pairLine, singleLine, totalsLine, groupCountLine, refusalBytes}
 use Rattle.laws.specs.Numbers.{numbers-at}
 
 -- the n bytes are appended at `at`: the output then holds them up to r
@@ -88,6 +88,14 @@ single-appended i v w x = appended-then (appended-then v w) x
 pub totals-appended : (p s n : ℕ) {at a b c d e : ℕ} {out o₁ o₂ o₃ o₄ o₅ : List ℕ} → Appended 2 at (49 ∷ 70 ∷ []) out a o₁ → Appended 4 a (hex 4 p) o₁ b o₂ → Appended 4 b (hex 4 s) o₂ c o₃ → Appended 8 c (hex 8 n) o₃ d o₄ → Appended 1 d (10 ∷ []) o₄ e o₅ → Appended 19 at (totalsLine p s n) out e o₅
 unfolding totalsLine hex digit
 totals-appended p s n v w x y z = appended-then (appended-then v (appended-then w (appended-then x y))) z
+
+pub group-started : {at a : ℕ} {out o₁ : List ℕ} → Appended 2 at (49 ∷ 51 ∷ []) out a o₁ → Appended 2 at (hex 2 0x13) out a o₁
+unfolding hex digit
+group-started x = x
+
+pub group-count-appended : (n : ℕ) {at a b c : ℕ} {out o₁ o₂ o₃ : List ℕ} → Appended 2 at (49 ∷ 70 ∷ []) out a o₁ → Appended 4 a (hex 4 n) o₁ b o₂ → Appended 1 b (10 ∷ []) o₂ c o₃ → Appended 7 at (groupCountLine n) out c o₃
+unfolding groupCountLine hex digit
+group-count-appended n v w x = appended-then (appended-then v w) x
 
 pub refusal-appended : (n p : ℕ) {at a b c d : ℕ} {out o₁ o₂ o₃ o₄ : List ℕ} → Appended 2 at (49 ∷ 69 ∷ []) out a o₁ → Appended 2 a (hex 2 (n % 256)) o₁ b o₂ → Appended 4 b (hex 4 p) o₂ c o₃ → Appended 1 c (10 ∷ []) o₃ d o₄ → Appended 9 at (refusalBytes n p) out d o₄
 unfolding refusalBytes hex digit

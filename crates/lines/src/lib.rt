@@ -7,7 +7,7 @@ ghost use mathlib.Core.Path.{_≡_};
 ghost use mathlib.Core.List.{[], _∷_, _++_};
 ghost use Prim.Native.Nat.{_+_, _-_, _<_, _≤_};
 ghost use lib.ListN.{length, take, replicate};
-ghost use Rattle.model.specs.Output.{hex, pairLine, singleLine, totalsLine, refusalBytes};
+ghost use Rattle.model.specs.Output.{hex, line, pairLine, singleLine, totalsLine, groupCountLine, refusalBytes};
 ghost use Rattle.lines.specs.Writing.{Appended, digitBytes};
 
 // The digits of upper-case hexadecimal. A caller makes them once and lends them to every line: a constant is made anew at each use.
@@ -112,6 +112,44 @@ pub fn put_single(digits: &[u8; 16], out: &mut [u8], at: usize, job: JobNumber) 
 {
     let first = put_kind(out, at, b'2');
     let end = put_four(digits, out, first, job.0);
+    put_byte(out, end, LINE_END)
+}
+
+// The kind of a group's line. The jobs of the group come after it, and its layout ends the line.
+pub fn start_group(out: &mut [u8], at: usize) -> usize
+    requires { ⌜ at + 2 ≤ length (now out) ⌝ }
+    ensures { λ r. ⌜ Appended 2 at (hex 2 0x13) (now (out .entry)) r (now (out .exit)) ⌝ }
+{
+    put_kind(out, at, b'3')
+}
+
+// A job of a group.
+pub fn put_job(digits: &[u8; 16], out: &mut [u8], at: usize, job: JobNumber) -> usize
+    requires { ⌜ now digits ≡ digitBytes ⌝ }
+    requires { ⌜ at + 4 ≤ length (now out) ⌝ }
+    ensures { λ r. ⌜ Appended 4 at (hex 4 (job .0)) (now (out .entry)) r (now (out .exit)) ⌝ }
+{
+    put_four(digits, out, at, job.0)
+}
+
+// The layout that a group prints on, the last of its line.
+pub fn end_group(digits: &[u8; 16], out: &mut [u8], at: usize, layout: LayoutNumber) -> usize
+    requires { ⌜ now digits ≡ digitBytes ⌝ }
+    requires { ⌜ at + 5 ≤ length (now out) ⌝ }
+    ensures { λ r. ⌜ Appended 5 at (line (hex 4 (layout .0))) (now (out .entry)) r (now (out .exit)) ⌝ }
+{
+    let end = put_four(digits, out, at, layout.0);
+    put_byte(out, end, LINE_END)
+}
+
+// The line of the number of groups.
+pub fn put_group_count(digits: &[u8; 16], out: &mut [u8], at: usize, groups: u16) -> usize
+    requires { ⌜ now digits ≡ digitBytes ⌝ }
+    requires { ⌜ at + 7 ≤ length (now out) ⌝ }
+    ensures { λ r. ⌜ Appended 7 at (groupCountLine groups) (now (out .entry)) r (now (out .exit)) ⌝ }
+{
+    let first = put_kind(out, at, b'F');
+    let end = put_four(digits, out, first, groups);
     put_byte(out, end, LINE_END)
 }
 

@@ -4,6 +4,7 @@ pub mod Exchange
 pub mod Passes
 pub mod Maximum
 pub mod EarlierPaired
+pub mod Grouping
 pub mod Renamed
 pub mod Prefix
 pub mod RunningOrder
@@ -16,3 +17,4 @@ pub mod Demand
 pub mod Singles
 pub mod MaximumAtEveryCut
 pub mod EarlierJobs
+pub mod FullGroupings

@@ -1,25 +1,27 @@
--- The worked tables (docs/RULES.md, 15): document 01's "Tables to try" that are marked ◆, planned as 2026-01 and 2026-02 ask, tables that tell wrong planners, tables with
--- windows, what is printed for some and for tables that 2026-04 and 2026-05 newly accept or refuse, rivals beside our plans, and worked stretches: a table of examples, one of
--- printings, one of rivals, one of stretches, and one fact of the four.
-use Prim.Native.Nat.{ℕ, suc}
+-- The worked tables (docs/RULES.md, 16): document 01's "Tables to try" that are marked ◆, planned as 2026-01 and 2026-02 ask, tables that tell wrong planners, tables with
+-- windows, what is printed for some and for tables that 2026-04 and 2026-05 newly accept or refuse, rivals beside our plans, groups for presses with more lanes, and worked
+-- stretches: a table of examples, one of printings, one of rivals, one of groups, one of stretches, and one fact of them all.
+use Prim.Native.Nat.{ℕ, zero, suc}
 use mathlib.Core.Path.{_≡_, refl}
 use mathlib.Core.Logic.{_≢_}
 use mathlib.Core.Bool.{Bool, cond, not, xor}
 use mathlib.Core.Option.{Option, none, some}
-use mathlib.Core.List.{List, [], _∷_, _++_, map, flatMap, headD}
+use mathlib.Core.List.{List, [], _∷_, _++_, map, flatMap, flatten, headD}
+use native.Mathlib.Omega.{arith}
 use lib.ListN.{length, getD}
-use lib.Dec.{T, eqb, ltb, T-not, ltb→lt, eqb-refl}
-use Rattle.model.specs.Lists.{numbersFrom, numbers, elem, indexOf, lastD, anyOf, allOf, select, countWhere, find, total, insertBy, sortBy, All, without}
+use lib.Dec.{T, eqb, ltb, T-not, ltb→lt, eqb-refl, eqb·suc-suc, eqb·suc-zero}
+use Rattle.model.specs.Lists.{numbersFrom, numbers, elem, indexOf, lastD, anyOf, allOf, select, countWhere, find, total, insertBy, sortBy, All, without, withoutAll, firstPassing}
 use Rattle.model.specs.Verdict.{Verdict, accepted, refused}
 use Rattle.model.specs.Tree.{FFFF, rightParent, layoutsFrom, treeVerdict, ascend, ancestors, ancestorOrSelf, depth, children, orSelf, leavesWithin, leaves, firstLeaf, lastLeaf}
-use Rattle.model.specs.Jobs.{Table, solo, sameWindow, upTo, pathFrom, path, ownPath, bare, asks, highest, highestDepth, shares, sharedLayouts, highestShared, deepestShared, bottomLeaf, jobVerdict}
+use Rattle.model.specs.Jobs.{Table, solo, window, sameWindow, upTo, pathFrom, path, ownPath, bare, asks, highest, highestDepth, shares, sharedLayouts, highestShared, deepestShared, bottomLeaf, jobVerdict}
 use Rattle.model.specs.Order.{earlier, runningOrder, place, leftward, windowJobs, windowSize, slotOrder, slot}
 use Rattle.model.specs.Greedy.{Pass, pair, single, greedyStep, greedySteps, greedy, compatible, passes}
+use Rattle.model.specs.Grouping.{Group, FullGrouping, groupStep, groupSteps, grouping, allFull, groupsOf, commonLayouts, deepestCommon}
 use Rattle.model.specs.Visits.{levelsFrom, levels, cellVisits, visits, asksFor, askedSlots, askedFrom, askedTo, lookupVisits, passVisits, cellCount}
 use Rattle.model.specs.Rival.{Pair, Rules, Rival, inFront, pairsInFront, pairsOf, inPair, pairedInOne, firstDifference}
 use Rattle.model.specs.Planning.{workCells, lentVerdict, jobsVerdict, planVerdict, partnerIn, pairCount, singleCount, partners, upper, upperLayouts, printed, printedLayouts, pairs, singles}
-use Rattle.model.specs.Table.{windowFrame, isDigit, digitValue, numberAfter, lead, lines, frameOfKind, frameOf, isEnd, beyondWindows, endWithoutLayout, onItsLine, contentVerdict, frameVerdict, extended, withOwnLine, unlessRefused, readFrame, readLines, readTable}
-use Rattle.model.specs.Output.{digit, hex, pairLine, singleLine, totalsLine, passLine, planBytes, refusalBytes, readingBytes, runBytes}
+use Rattle.model.specs.Table.{windowFrame, isDigit, digitValue, numberAfter, lead, lines, frameOfKind, frameOf, isEnd, beyondWindows, endWithoutLayout, onItsLine, contentVerdict, frameVerdict, extended, withOwnLine, unlessRefused, readFrame, readLines, readTable, read}
+use Rattle.model.specs.Output.{digit, hex, pairLine, singleLine, totalsLine, passLine, planBytes, refusalBytes, readingBytes, runBytes, lanesVerdict, fullVerdict, groupLine, groupCountLine, groupBytes, unlessRefusedBytes, groupReadingBytes, groupRunBytes}
 use Rattle.model.specs.Stretch.{agreement, startsIn, leading, stretchOf, begun, numbersOf, dropped, kept}
 
 -- a plan's passes, `I J U L` or `I`, its partners, upper and printed layouts by job, and its totals; or a refusal's number and place
@@ -60,15 +62,18 @@ record Example : Type 0 where
   jobs : List Job
   expected : Outcome
 
-tableIn : Example → Table
-tableIn e =
+tableWith : List ℕ → List Job → Table
+tableWith parents js =
     record {
-      parents = e .parents;
-      tops = map (λ (j : Job). j .top) (e .jobs);
-      bottoms = map (λ (j : Job). j .bottom) (e .jobs);
-      marks = map (λ (j : Job). j .mark) (e .jobs);
-      windows = map (λ (j : Job). j .window) (e .jobs);
+      parents = parents;
+      tops = map (λ (j : Job). j .top) js;
+      bottoms = map (λ (j : Job). j .bottom) js;
+      marks = map (λ (j : Job). j .mark) js;
+      windows = map (λ (j : Job). j .window) js;
     }
+
+tableIn : Example → Table
+tableIn e = tableWith (e .parents) (e .jobs)
 
 -- what *Plan* does, with buffers of the right sizes
 planned : Example → Outcome
@@ -375,6 +380,92 @@ two-pairs tb p q r s a b c d = record {
   once = ((record { one-one = unequal (p .one) (q .one) a; one-other = unequal (p .one) (q .other) b; other-one = unequal (p .other) (q .one) c; other-other = unequal (p .other) (q .other) d }, tt), (tt, tt));
 }
 
+-- ---- groups for presses with more lanes
+
+-- a number of one digit in four
+four : ℕ → List ℕ
+four d = 0 ∷ 0 ∷ 0 ∷ d ∷ []
+
+-- the line of a group, by its jobs and its layout, and that of the number of groups
+groupOf : List ℕ → ℕ → List ℕ
+groupOf js l = 1 ∷ 3 ∷ (flatMap four js ++ four l)
+
+groupCountOf : ℕ → List ℕ
+groupCountOf n = 1 ∷ 15 ∷ four n
+
+-- a table, the lanes of a press, and all that is printed for it
+record Grouping : Type 0 where
+  parents : List ℕ
+  jobs : List Job
+  lanes : ℕ
+  prints : List (List ℕ)
+
+-- document 02's chain
+chainOfSeven : List Job
+chainOfSeven = 4 to 4 ∷ 3 to 4 ∷ 2 to 4 ∷ 3 to 3 ∷ 3 to 3 ∷ 2 to 2 ∷ 2 to 2 ∷ []
+
+groupings : List Grouping
+groupings =
+    -- no jobs, and no press; a pair, and one lane too many for it; layout 0 alone; a solo job
+    record { parents = F ∷ []; jobs = []; lanes = 8; prints = groupCountOf 0 ∷ [] }
+    ∷ record { parents = F ∷ []; jobs = []; lanes = 9; prints = refusalOf 13 0 ∷ [] }
+    ∷ record { parents = F ∷ []; jobs = []; lanes = 1; prints = refusalOf 13 0 ∷ [] }
+    ∷ record { parents = F ∷ 0 ∷ []; jobs = 1 to 1 ∷ 0 to 1 ∷ []; lanes = 2; prints = groupOf (0 ∷ 1 ∷ []) 1 ∷ groupCountOf 1 ∷ [] }
+    ∷ record { parents = F ∷ 0 ∷ []; jobs = 1 to 1 ∷ 0 to 1 ∷ []; lanes = 3; prints = refusalOf 14 0 ∷ [] }
+    ∷ record { parents = F ∷ []; jobs = 0 to 0 ∷ 0 to 0 ∷ []; lanes = 2; prints = refusalOf 14 0 ∷ [] }
+    ∷ record { parents = F ∷ 0 ∷ []; jobs = 1 to 1 ∷ 1 soloTo 1 ∷ []; lanes = 2; prints = refusalOf 14 0 ∷ [] }
+    -- windows
+    ∷ record { parents = F ∷ 0 ∷ []; jobs = 1 to 1 ∷ 1 to 1 inWindow 1 ∷ 1 to 1 ∷ 1 to 1 inWindow 1 ∷ []; lanes = 2; prints = groupOf (0 ∷ 2 ∷ []) 1 ∷ groupOf (1 ∷ 3 ∷ []) 1 ∷ groupCountOf 2 ∷ [] }
+    ∷ record { parents = F ∷ 0 ∷ []; jobs = 1 to 1 ∷ 1 to 1 inWindow 1 ∷ 1 to 1 ∷ 1 to 1 ∷ []; lanes = 2; prints = refusalOf 14 0 ∷ [] }
+    -- lines by place; document 02's chain, without its first job, and with two more at the end
+    ∷ record { parents = F ∷ 0 ∷ 1 ∷ []; jobs = 1 to 1 ∷ 1 to 1 ∷ 2 to 2 ∷ 2 to 2 ∷ []; lanes = 2; prints = groupOf (2 ∷ 3 ∷ []) 2 ∷ groupOf (0 ∷ 1 ∷ []) 1 ∷ groupCountOf 2 ∷ [] }
+    ∷ record { parents = F ∷ 0 ∷ 1 ∷ 2 ∷ 3 ∷ []; jobs = chainOfSeven; lanes = 3; prints = refusalOf 14 0 ∷ [] }
+    ∷ record {
+      parents = F ∷ 0 ∷ 1 ∷ 2 ∷ 3 ∷ [];
+      jobs = 3 to 4 ∷ 2 to 4 ∷ 3 to 3 ∷ 3 to 3 ∷ 2 to 2 ∷ 2 to 2 ∷ [];
+      lanes = 3;
+      prints = groupOf (0 ∷ 2 ∷ 3 ∷ []) 3 ∷ groupOf (1 ∷ 4 ∷ 5 ∷ []) 2 ∷ groupCountOf 2 ∷ [];
+    }
+    ∷ record {
+      parents = F ∷ 0 ∷ 1 ∷ 2 ∷ 3 ∷ [];
+      jobs = chainOfSeven ++ 3 to 3 ∷ 2 to 2 ∷ [];
+      lanes = 3;
+      prints = groupOf (0 ∷ 1 ∷ 2 ∷ []) 4 ∷ groupOf (3 ∷ 4 ∷ 7 ∷ []) 3 ∷ groupOf (5 ∷ 6 ∷ 8 ∷ []) 2 ∷ groupCountOf 3 ∷ [];
+    }
+    -- the layout of all three, not of the first two; the first later jobs; two branches; eight lanes
+    ∷ record { parents = F ∷ 0 ∷ 1 ∷ []; jobs = 1 to 2 ∷ 1 to 2 ∷ 1 to 1 ∷ []; lanes = 3; prints = groupOf (0 ∷ 1 ∷ 2 ∷ []) 1 ∷ groupCountOf 1 ∷ [] }
+    ∷ record { parents = F ∷ 0 ∷ 1 ∷ 2 ∷ []; jobs = 3 to 3 ∷ 1 to 3 ∷ 2 to 3 ∷ 1 to 1 ∷ []; lanes = 2; prints = groupOf (0 ∷ 2 ∷ []) 3 ∷ groupOf (1 ∷ 3 ∷ []) 1 ∷ groupCountOf 2 ∷ [] }
+    ∷ record { parents = F ∷ 0 ∷ 0 ∷ []; jobs = 0 to 1 ∷ 0 to 2 ∷ 1 to 1 ∷ 2 to 2 ∷ []; lanes = 2; prints = groupOf (0 ∷ 2 ∷ []) 1 ∷ groupOf (1 ∷ 3 ∷ []) 2 ∷ groupCountOf 2 ∷ [] }
+    ∷ record { parents = F ∷ 0 ∷ []; jobs = 1 to 1 ∷ 1 to 1 ∷ 1 to 1 ∷ 1 to 1 ∷ 1 to 1 ∷ 1 to 1 ∷ 1 to 1 ∷ 1 to 1 ∷ []; lanes = 8; prints = groupOf (0 ∷ 1 ∷ 2 ∷ 3 ∷ 4 ∷ 5 ∷ 6 ∷ 7 ∷ []) 1 ∷ groupCountOf 1 ∷ [] }
+    ∷ []
+
+-- what is printed for a table that was read
+grouped : Grouping → List ℕ
+grouped e = unlessRefusedBytes (lanesVerdict (e .lanes)) (groupReadingBytes (e .lanes) (read (tableWith (e .parents) (e .jobs))))
+
+-- 13 before what the reader turns away, and that before 14
+refusedGroupings : List (ℕ × List (List ℕ) × List ℕ)
+refusedGroupings =
+    (9, [] ∷ [], refusalOf 13 0)
+    ∷ (2, [] ∷ [], refusalOf 1 1)
+    ∷ (2, firstLayout ∷ jobOf 1 0 ∷ endOf 1 1 ∷ [], refusalOf 5 2)
+    ∷ (2, firstLayout ∷ jobOf 0 0 ∷ endOf 1 1 ∷ [], refusalOf 14 0)
+    ∷ []
+
+chainTable : Table
+chainTable = tableWith (F ∷ 0 ∷ 1 ∷ 2 ∷ 3 ∷ []) chainOfSeven
+
+-- a tree of two branches
+onBranches : List Job → Table
+onBranches js = tableWith (F ∷ 0 ∷ 0 ∷ []) js
+
+-- paths to both have no layout other than 0 in common
+branches-apart : (x : ℕ) → x ≢ 0 → T (elem x (1 ∷ 0 ∷ [])) → T (elem x (2 ∷ 0 ∷ [])) → ⊥
+unfolding elem anyOf
+branches-apart zero other a b = other refl
+branches-apart (suc zero) other a b = b
+branches-apart (suc (suc x)) other a b = rw (eqb·suc-suc (suc x) 0, eqb·suc-zero x, eqb·suc-zero (suc x)) at a
+
 -- ---- stretches
 
 -- two lists, and of their shared stretch the list that it begins, the cell of that list at which it starts, and its numbers
@@ -416,7 +507,8 @@ stretched e =
 
 -- ---- the fact
 
--- each table is planned or refused as expected, each printing is as spelled, each rival keeps the rules and compares as written, each stretch is as written, the bakehouse has its running
+-- each table is planned or refused as expected, each printing is as spelled, each rival keeps the rules and compares as written, each table is grouped as spelled, document 02's chain
+-- has two groups of three where the rule makes one, what breaks a rule is no group and no full grouping, each stretch is as written, the bakehouse has its running
 -- order and its slots, equal leaves by place, the lookups of jobs 4, 1 and 2 visit 7, 7 and 11 cells, an empty span visits one cell, inside a shelf and at its ends, and window
 -- 16 is refusal 9 on every line, whatever the table so far, the top and the bottom
 examples-hold :
@@ -424,18 +516,38 @@ examples-hold :
     × (map (λ (e : Printing). runBytes (flatMap spelled (e .lines))) printings ≡ map (λ (e : Printing). flatMap spelled (e .spells)) printings)
     × All (λ (c : Comparison). Rival (tableIn (c .example)) (c .rival)) comparisons
     × (map compared comparisons ≡ comparisons)
+    × (map grouped groupings ≡ map (λ (e : Grouping). flatMap spelled (e .prints)) groupings)
+    × (map (λ (e : ℕ × List (List ℕ) × List ℕ). groupRunBytes (e .0) (flatMap spelled (e .1))) refusedGroupings ≡ map (λ (e : ℕ × List (List ℕ) × List ℕ). spelled (e .2)) refusedGroupings)
+    × All (Group chainTable 3) ((1 ∷ 3 ∷ 4 ∷ []) ∷ (2 ∷ 5 ∷ 6 ∷ []) ∷ [])
+    × (groupsOf chainTable 3 ≡ (0 ∷ 1 ∷ 2 ∷ []) ∷ (3 ∷ 4 ∷ []) ∷ (5 ∷ 6 ∷ []) ∷ [])
+    × (Group (onBranches (1 to 1 ∷ 1 to 1 ∷ [])) 3 (0 ∷ 1 ∷ []) → ⊥)
+    × (Group (onBranches (0 to 0 ∷ [])) 2 (0 ∷ 1 ∷ []) → ⊥)
+    × (Group (onBranches (1 to 1 ∷ 1 soloTo 1 ∷ [])) 2 (0 ∷ 1 ∷ []) → ⊥)
+    × (Group (onBranches (1 to 1 ∷ 1 to 1 inWindow 1 ∷ [])) 2 (0 ∷ 1 ∷ []) → ⊥)
+    × (Group (onBranches (0 to 1 ∷ 0 to 2 ∷ [])) 2 (0 ∷ 1 ∷ []) → ⊥)
+    × (FullGrouping (onBranches (1 to 1 ∷ 1 to 1 ∷ 1 to 1 ∷ [])) 2 ((0 ∷ 1 ∷ []) ∷ []) → ⊥)
+    × (FullGrouping (onBranches (1 to 1 ∷ 1 to 1 ∷ [])) 2 ((0 ∷ 1 ∷ []) ∷ (1 ∷ 0 ∷ []) ∷ []) → ⊥)
     × (map stretched stretches ≡ stretches)
     × (runningOrder (tableIn bakehouse) ≡ 4 ∷ 0 ∷ 1 ∷ 2 ∷ 3 ∷ [])
     × (map (slot (tableIn bakehouse)) (4 ∷ 0 ∷ 1 ∷ 2 ∷ 3 ∷ []) ≡ 0 ∷ 1 ∷ 2 ∷ 3 ∷ 4 ∷ [])
     × (map (lookupVisits (tableIn bakehouse)) (4 ∷ 1 ∷ 2 ∷ []) ≡ 7 ∷ 7 ∷ 11 ∷ [])
     × (map (λ (s : ℕ). visits 3 s s) (0 ∷ 3 ∷ 4 ∷ 8 ∷ []) ≡ 1 ∷ 1 ∷ 1 ∷ 1 ∷ [])
     × ((line : ℕ) (tb : Table) (own : List ℕ) (ended : Bool) (t b : ℕ) → frameVerdict line tb own ended (windowFrame t b 16) ≡ refused 9 line)
-unfolding numbersFrom numbers elem indexOf lastD anyOf allOf select countWhere find total insertBy sortBy rightParent layoutsFrom treeVerdict ascend ancestors ancestorOrSelf depth children orSelf leavesWithin leaves firstLeaf lastLeaf solo sameWindow upTo pathFrom path ownPath bare asks highest highestDepth shares sharedLayouts highestShared deepestShared bottomLeaf jobVerdict earlier runningOrder place leftward windowJobs windowSize slotOrder slot without greedyStep greedySteps greedy compatible passes levelsFrom levels cellVisits visits asksFor askedSlots askedFrom askedTo lookupVisits passVisits cellCount lentVerdict jobsVerdict planVerdict partnerIn pairCount singleCount partners upper upperLayouts printed printedLayouts pairs singles passNumbers outcome _to_ _soloTo_ _inWindow_ tableIn planned F bakehouse earlierJob numberedLast aloneBefore fourAlike examples flatMap headD isDigit digitValue numberAfter lead lines frameOfKind frameOf isEnd beyondWindows endWithoutLayout onItsLine contentVerdict frameVerdict extended withOwnLine unlessRefused readFrame readLines readTable digit hex pairLine singleLine totalsLine passLine planBytes refusalBytes readingBytes runBytes spelled firstLayout layoutUnder jobOf soloOf windowOf endOf pairOf singleOf totalsOf refusalOf printings xor inFront pairsInFront pairsOf inPair pairedInOne firstDifference difference _with_ comparisons compared agreement startsIn leading stretchOf dropped stretched stretches
+unfolding numbersFrom numbers elem indexOf lastD anyOf allOf select countWhere find total insertBy sortBy rightParent layoutsFrom treeVerdict ascend ancestors ancestorOrSelf depth children orSelf leavesWithin leaves firstLeaf lastLeaf solo sameWindow upTo pathFrom path ownPath bare asks highest highestDepth shares sharedLayouts highestShared deepestShared bottomLeaf jobVerdict earlier runningOrder place leftward windowJobs windowSize slotOrder slot without greedyStep greedySteps greedy compatible passes levelsFrom levels cellVisits visits asksFor askedSlots askedFrom askedTo lookupVisits passVisits cellCount lentVerdict jobsVerdict planVerdict partnerIn pairCount singleCount partners upper upperLayouts printed printedLayouts pairs singles passNumbers outcome _to_ _soloTo_ _inWindow_ tableWith tableIn planned F bakehouse earlierJob numberedLast aloneBefore fourAlike examples flatMap headD isDigit digitValue numberAfter lead lines frameOfKind frameOf isEnd beyondWindows endWithoutLayout onItsLine contentVerdict frameVerdict extended withOwnLine unlessRefused readFrame readLines readTable digit hex pairLine singleLine totalsLine passLine planBytes refusalBytes readingBytes runBytes spelled firstLayout layoutUnder jobOf soloOf windowOf endOf pairOf singleOf totalsOf refusalOf printings xor inFront pairsInFront pairsOf inPair pairedInOne firstDifference difference _with_ comparisons compared flatten withoutAll firstPassing groupStep groupSteps grouping allFull groupsOf commonLayouts deepestCommon lanesVerdict fullVerdict groupLine groupCountLine groupBytes groupReadingBytes groupRunBytes four groupOf groupCountOf chainOfSeven chainTable groupings grouped refusedGroupings onBranches agreement startsIn leading stretchOf dropped stretched stretches
 examples-hold =
     let a = one-pair (tableIn earlierJob) (1 with 2) (keeps (tableIn earlierJob) 1 2 tt tt tt tt tt tt tt) in
     let b = one-pair (tableIn numberedLast) (0 with 1) (keeps (tableIn numberedLast) 0 1 tt tt tt tt tt tt tt) in
     let c = one-pair (tableIn aloneBefore) (2 with 3) (keeps (tableIn aloneBefore) 2 3 tt tt tt tt tt tt tt) in
     let d = two-pairs (tableIn bakehouse) (4 with 1) (2 with 3) (keeps (tableIn bakehouse) 4 1 tt tt tt tt tt tt tt) (keeps (tableIn bakehouse) 2 3 tt tt tt tt tt tt tt) tt tt tt tt in
     let e = one-pair (tableIn fourAlike) (0 with 1) (keeps (tableIn fourAlike) 0 1 tt tt tt tt tt tt tt) in
+    let g : Group chainTable 3 (1 ∷ 3 ∷ 4 ∷ []) = record { full = refl; known = (ltb→lt 1 _ tt, (ltb→lt 3 _ tt, (ltb→lt 4 _ tt, tt))); none-solo = (tt, (tt, (tt, tt))); one-window = (0, (refl, (refl, (refl, tt)))); one-layout = (3, unequal _ _ tt, (tt, (tt, (tt, tt)))) } in
+    let h : Group chainTable 3 (2 ∷ 5 ∷ 6 ∷ []) = record { full = refl; known = (ltb→lt 2 _ tt, (ltb→lt 5 _ tt, (ltb→lt 6 _ tt, tt))); none-solo = (tt, (tt, (tt, tt))); one-window = (0, (refl, (refl, (refl, tt)))); one-layout = (2, unequal _ _ tt, (tt, (tt, (tt, tt)))) } in
+    let too-few : Group (onBranches (1 to 1 ∷ 1 to 1 ∷ [])) 3 (0 ∷ 1 ∷ []) → ⊥ = λ o. omega (arith, o .full) in
+    let not-there : Group (onBranches (0 to 0 ∷ [])) 2 (0 ∷ 1 ∷ []) → ⊥ = λ o. omega (arith, o .known .1 .0) in
+    let one-solo : Group (onBranches (1 to 1 ∷ 1 soloTo 1 ∷ [])) 2 (0 ∷ 1 ∷ []) → ⊥ = λ o. o .none-solo .1 .0 in
+    let two-windows : Group (onBranches (1 to 1 ∷ 1 to 1 inWindow 1 ∷ [])) 2 (0 ∷ 1 ∷ []) → ⊥ = λ o. omega (arith, o .one-window .1 .0, o .one-window .1 .1 .0) in
+    let no-layout : Group (onBranches (0 to 1 ∷ 0 to 2 ∷ [])) 2 (0 ∷ 1 ∷ []) → ⊥ = λ o. branches-apart (o .one-layout .0) (o .one-layout .1) (o .one-layout .2 .0) (o .one-layout .2 .1 .0) in
+    let left-out : FullGrouping (onBranches (1 to 1 ∷ 1 to 1 ∷ 1 to 1 ∷ [])) 2 ((0 ∷ 1 ∷ []) ∷ []) → ⊥ = λ o. omega (arith, o .once 2 (ltb→lt 2 _ tt)) in
+    let twice : FullGrouping (onBranches (1 to 1 ∷ 1 to 1 ∷ [])) 2 ((0 ∷ 1 ∷ []) ∷ (1 ∷ 0 ∷ []) ∷ []) → ⊥ = λ o. omega (arith, o .once 0 (ltb→lt 0 _ tt)) in
     let f = two-pairs (tableIn fourAlike) (0 with 3) (1 with 2) (keeps (tableIn fourAlike) 0 3 tt tt tt tt tt tt tt) (keeps (tableIn fourAlike) 1 2 tt tt tt tt tt tt tt) tt tt tt tt in
-    (refl, refl, (a, (b, (c, (d, (record { keep = tt; once = tt }, (e, (f, tt))))))), refl, refl, refl, refl, refl, refl, λ line tb own ended t b. refl)
+    (refl, refl, (a, (b, (c, (d, (record { keep = tt; once = tt }, (e, (f, tt))))))), refl, refl, refl, (g, (h, tt)), refl, too-few, not-there, one-solo, two-windows, no-layout, left-out, twice, refl, refl, refl, refl, refl, λ line tb own ended t b. refl)

@@ -3,6 +3,7 @@ use Prim.Native.Nat.{ℕ, zero, suc, _+_}
 use mathlib.Core.Bool.{Bool, true, false, cond, not, _&&_, _||_}
 use mathlib.Core.Option.{Option, none, some}
 use mathlib.Core.List.{List, [], _∷_}
+use lib.ListN.{take}
 use lib.Dec.{eqb}
 
 -- the numbers from a on, n of them
@@ -83,3 +84,12 @@ module _ {ℓ} {A : Type ℓ} where
 -- the list without x
 unfoldable pub without : ℕ → List ℕ → List ℕ
 without x l = select (λ (y : ℕ). not (eqb y x)) l
+
+-- the list without any of js
+unfoldable pub withoutAll : List ℕ → List ℕ → List ℕ
+withoutAll [] l = l
+withoutAll (j ∷ js) l = withoutAll js (without j l)
+
+-- the first n members that pass the test; all of these, where they are fewer
+unfoldable pub firstPassing : ℕ → (ℕ → Bool) → List ℕ → List ℕ
+firstPassing n p l = take n (select p l)

@@ -1,16 +1,18 @@
--- The full outcome of each public operation (docs/RULES.md, 8 to 11, 13 and 14): the answer, and each lent buffer as the call leaves it (marked ′).
-use Prim.Native.Nat.{ℕ}
+-- The full outcome of each public operation (docs/RULES.md, 8 to 11 and 13 to 15): the answer, and each lent buffer as the call leaves it (marked ′).
+use Prim.Native.Nat.{ℕ, _≤_}
 use mathlib.Core.Path.{_≡_}
+use mathlib.Core.Logic.{_≢_}
 use mathlib.Core.List.{List, [], _∷_, _++_}
-use lib.ListN.{length, drop, replicate}
-use Rattle.model.specs.Verdict.{Verdict, answer, lent}
+use lib.ListN.{length, take, drop, replicate}
+use Rattle.model.specs.Verdict.{Verdict, accepted, answer, lent}
 use Rattle.model.specs.Tree.{FFFF, depth, firstLeaf, lastLeaf, settleVerdict, settledCells}
 use Rattle.model.specs.Jobs.{Table, jobs, tableOf}
 use Rattle.model.specs.Visits.{cellCount}
 use Rattle.model.specs.Rival.{MaximumAtEveryCut, EarlierJobsPaired}
 use Rattle.model.specs.Planning as Planning
-use Rattle.model.specs.Table.{Reading, readTable, tableRead, buffersVerdict, readAnswer, readCells}
-use Rattle.model.specs.Output.{runLength, runOutput}
+use Rattle.model.specs.Grouping.{FullGrouping, groupsOf}
+use Rattle.model.specs.Table.{Reading, read, readTable, tableRead, buffersVerdict, readAnswer, readCells}
+use Rattle.model.specs.Output.{refusalBytes, outputBytes, lanesVerdict, groupBytes, runLength, runOutput, groupRunLength, groupRunOutput}
 use Rattle.model.specs.Answers.{settledAnswer, tableAnswer, plannedAnswer}
 use Rattle.model.specs.declared.Settled.{Settled}
 use Rattle.model.specs.declared.TableRead.{TableRead}
@@ -62,3 +64,17 @@ PlanOutcome parents tops bottoms marks windows partners uppers printed work =
 pub record RunOutcome (input output : List ℕ) (r : ℕ) (output′ : List ℕ) : Type 0 where
   pub answered : r ≡ runLength input output
   pub written : output′ ≡ runOutput input output
+
+-- what a press with g lanes prints for a table: 14 exactly if the table has no full grouping, however that might be made; else the groups of the rule, which are one
+pub record FullOrNone (tb : Table) (g : ℕ) (printed : List ℕ) : Type 0 where
+  pub refused-none : printed ≡ refusalBytes 14 0 → (gs : List (List ℕ)) → FullGrouping tb g gs → ⊥
+  pub none-refused : ((gs : List (List ℕ)) → FullGrouping tb g gs → ⊥) → printed ≡ refusalBytes 14 0
+  pub any-printed : (gs : List (List ℕ)) → FullGrouping tb g gs → FullGrouping tb g (groupsOf tb g) × (printed ≡ groupBytes g tb)
+  pub else-printed : printed ≢ refusalBytes 14 0 → FullGrouping tb g (groupsOf tb g) × (printed ≡ groupBytes g tb)
+
+-- the second whole run, for a press with g lanes: the length answered, the output as it is left, and that 14 comes exactly if no full grouping exists, last: of a table that was
+-- read, by a press that there is, into output that is long enough
+pub record GroupRunOutcome (g : ℕ) (input output : List ℕ) (r : ℕ) (output′ : List ℕ) : Type 0 where
+  pub answered : r ≡ groupRunLength g input output
+  pub written : output′ ≡ groupRunOutput g input output
+  pub full-or-none : (tb : Table) → outputBytes ≤ length output → lanesVerdict g ≡ accepted → readTable input ≡ read tb → FullOrNone tb g (take r output′)

@@ -1,12 +1,14 @@
--- The plan's lines and the whole run (docs/RULES.md, 13, and docs/FORMAT.md; document 01, "The plan", and *Whole run* of "What each operation turns away").
+-- The plan's lines and the two whole runs (docs/RULES.md, 13 and 15, and docs/FORMAT.md; document 01, "The plan", and *Whole run* of "What each operation turns away"; document 02,
+-- 2026-07).
 use Prim.Native.Nat.{ℕ, zero, suc, _+_, _/_, _%_}
-use mathlib.Core.Bool.{cond}
+use mathlib.Core.Bool.{cond, not, _&&_}
 use mathlib.Core.List.{List, [], _∷_, _++_, flatMap}
 use lib.ListN.{length}
-use lib.Dec.{ltb}
+use lib.Dec.{leb, ltb}
 use Rattle.model.specs.Verdict.{Verdict, accepted, refused, refuseIf, lent, padded}
 use Rattle.model.specs.Jobs.{Table}
 use Rattle.model.specs.Greedy.{Pass, pair, single, passes}
+use Rattle.model.specs.Grouping.{leastLanes, mostLanes, groupsOf, allFull, deepestCommon}
 use Rattle.model.specs.Visits.{cellCount}
 use Rattle.model.specs.Planning.{upper, printed, pairs, singles}
 use Rattle.model.specs.Table.{Reading, read, stopped, readTable}
@@ -57,7 +59,45 @@ readingBytes (stopped number place) = refusalBytes number place
 unfoldable pub runBytes : List ℕ → List ℕ
 runBytes bytes = readingBytes (readTable bytes)
 
--- bytes of output that the whole run needs
+-- ---- a press with more lanes
+
+-- 13: g outside 2 to 8
+unfoldable pub lanesVerdict : ℕ → Verdict
+lanesVerdict g = refuseIf (not (leb leastLanes g && leb g mostLanes)) 13 0
+
+-- 14: the rule leaves a group that is not full. Then there is no full grouping, however it may be made (Outcomes: `FullOrNone`)
+unfoldable pub fullVerdict : Table → ℕ → Verdict
+fullVerdict tb g = refuseIf (not (allFull g (groupsOf tb g))) 14 0
+
+-- 13, the jobs of a group in running order, their deepest common layout
+unfoldable pub groupLine : Table → List ℕ → List ℕ
+groupLine tb group = line (hex 2 0x13 ++ (flatMap (hex 4) group ++ hex 4 (deepestCommon tb group)))
+
+-- 1F: the number of groups
+unfoldable pub groupCountLine : ℕ → List ℕ
+groupCountLine n = line (hex 2 0x1F ++ hex 4 n)
+
+-- one line a group, ordered by its first job, and their number
+unfoldable pub groupBytes : ℕ → Table → List ℕ
+groupBytes g tb = flatMap (groupLine tb) (groupsOf tb g) ++ groupCountLine (length (groupsOf tb g))
+
+-- a refusal's line, or what is printed where nothing is refused
+abbrev pub unlessRefusedBytes : Verdict → List ℕ → List ℕ
+unlessRefusedBytes accepted bytes = bytes
+unlessRefusedBytes (refused number place) bytes = refusalBytes number place
+
+-- what is printed for a reading, 14 last
+unfoldable pub groupReadingBytes : ℕ → Reading → List ℕ
+groupReadingBytes g (read tb) = unlessRefusedBytes (fullVerdict tb g) (groupBytes g tb)
+groupReadingBytes g (stopped number place) = refusalBytes number place
+
+-- what the second whole run prints for a table's bytes: 13, then what the reader turns away, then 14, then the groups
+unfoldable pub groupRunBytes : ℕ → List ℕ → List ℕ
+groupRunBytes g bytes = unlessRefusedBytes (lanesVerdict g) (groupReadingBytes g (readTable bytes))
+
+-- ---- the output
+
+-- bytes of output that a whole run needs
 abbrev pub outputBytes : ℕ
 outputBytes = 40960
 
@@ -69,10 +109,22 @@ abbrev pub lengthUnder : Verdict → ℕ → ℕ
 lengthUnder accepted n = n
 lengthUnder (refused number place) n = 0
 
--- the length that the whole run answers: 0 after refusal 8
-unfoldable pub runLength : List ℕ → List ℕ → ℕ
-runLength bytes output = lengthUnder (outputVerdict (length output)) (length (runBytes bytes))
+-- the length that a run answers which prints these bytes: 0 after refusal 8
+abbrev pub lengthPrinting : List ℕ → List ℕ → ℕ
+lengthPrinting printed output = lengthUnder (outputVerdict (length output)) (length printed)
 
 -- the output afterwards: nothing changed after refusal 8, else bytes past the length are 0
+abbrev pub outputPrinting : List ℕ → List ℕ → List ℕ
+outputPrinting printed output = lent (outputVerdict (length output)) output (padded (length output) 0 printed)
+
+unfoldable pub runLength : List ℕ → List ℕ → ℕ
+runLength bytes output = lengthPrinting (runBytes bytes) output
+
 unfoldable pub runOutput : List ℕ → List ℕ → List ℕ
-runOutput bytes output = lent (outputVerdict (length output)) output (padded (length output) 0 (runBytes bytes))
+runOutput bytes output = outputPrinting (runBytes bytes) output
+
+unfoldable pub groupRunLength : ℕ → List ℕ → List ℕ → ℕ
+groupRunLength g bytes output = lengthPrinting (groupRunBytes g bytes) output
+
+unfoldable pub groupRunOutput : ℕ → List ℕ → List ℕ → List ℕ
+groupRunOutput g bytes output = outputPrinting (groupRunBytes g bytes) output

@@ -1,8 +1,10 @@
 // The numbers and answers that every part of the planner speaks in, and, in specs/, what document 01 says of them.
 ghost use mathlib.Core.Path.{_≡_};
-ghost use lib.Dec.{eqb, ltb};
+ghost use mathlib.Core.Bool.{_&&_};
+ghost use lib.Dec.{eqb, leb, ltb};
 ghost use Rattle.model.specs.Tree.{FFFF};
 ghost use Rattle.model.specs.Jobs.{windowLimit};
+ghost use Rattle.model.specs.Grouping.{leastLanes, mostLanes};
 
 // What stands for no layout, no job and no place: FFFF in the table and in lent number cells.
 pub const ABSENT: u16 = 0xFFFF;
@@ -63,6 +65,24 @@ impl WindowNumber {
         ensures { λ r. ⌜ r ≡ ltb (self .0) windowLimit ⌝ }
     {
         (self.0 as usize) < WindowNumber::LIMIT
+    }
+}
+
+// How many lanes a press has.
+pub struct LaneCount(pub usize);
+
+impl LaneCount {
+    // From 2 lanes.
+    pub const LEAST: usize = 2;
+
+    // To 8.
+    pub const MOST: usize = 8;
+
+    // Whether there are presses with so many.
+    pub fn is_known(self) -> bool
+        ensures { λ r. ⌜ r ≡ (leb leastLanes (self .0) && leb (self .0) mostLanes) ⌝ }
+    {
+        LaneCount::LEAST <= self.0 && self.0 <= LaneCount::MOST
     }
 }
 

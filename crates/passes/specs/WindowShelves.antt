@@ -1,7 +1,7 @@
 -- Each window's shelf of a table behaves, call by call, as a plain list of its own (document 01, "The shelf and its cells", as 2026-05 changed it): what is done in the row of all
 -- shelves at a job's slot there is done on the shelf of its window at the job's own slot, and on no other. A law for each call, in the words of its contract.
 use Prim.Native.Nat.{ℕ, _+_, _-_, _<_, _≤_}
-use mathlib.Core.Path.{_≡_}
+use mathlib.Core.Path.{_≡_, refl}
 use mathlib.Core.Logic.{_⊎_, inl, inr, _≢_}
 use mathlib.Core.List.{List, []}
 use native.Mathlib.Decide.{decLt}
@@ -12,7 +12,7 @@ use Rattle.model.specs.Visits.{levels, visits, askedFrom, askedTo}
 use Rattle.matching.specs.RunningOrder.{slot-lt}
 use Rattle.schedule.specs.OfTable.{shelfBase, rowSlot, rowFrom, rowTo}
 use Rattle.schedule_laws.specs.Row.{shelf-apart, row-begins, row-ends}
-use Rattle.sweep_laws.specs.SegmentTree.{Entry, insertEntry, removeEntry, smallest, Cleared, Inserted, Removed, Searchable, Minimum}
+use Rattle.sweep_laws.specs.SegmentTree.{Entry, insertEntry, removeEntry, entriesIn, smallest, Cleared, Inserted, Removed, ShelfSpan}
 use Rattle.sweep_laws.specs.Shelves.{shelfIn, shelf-cleared, shelf-inserted, shelf-removed, other-inserted, other-removed, shelf-found}
 
 module _ (tb : Table) where
@@ -51,15 +51,20 @@ module _ (tb : Table) where
         pub other-window-removed : Removed kept width old (rowSlot tb j) new → windowShelf v width new ≡ windowShelf v width old
         other-window-removed h = other-removed (shelfBase tb v) (windowSize tb v) kept width old new (rowSlot tb j) (slot-apart v j known other) h
 
-  -- a lookup in the row for what job j asks for answers what one on the shelf of its window does for the job's own span, and visits as many cells
+  -- a lookup in the row for what job j asks for answers what one on the shelf of its window does for the job's own span
   pub window-found :
-      (kept width : ℕ) (nodes : List ℕ) (j first last place count : ℕ)
-      → Searchable kept width nodes (shelfBase tb (window tb j)) (windowSize tb (window tb j)) (rowFrom tb j) (rowTo tb j) first last
-      → Minimum width nodes (shelfBase tb (window tb j)) (windowSize tb (window tb j)) (rowFrom tb j) (rowTo tb j) place count
-      → (place ≡ smallest (windowShelf (window tb j) width nodes) (askedFrom tb j) (askedTo tb j))
-      × (count ≡ visits (levels (windowSize tb (window tb j))) (askedFrom tb j) (askedTo tb j))
-  window-found kept width nodes j first last place count n m =
+      (width : ℕ) (nodes : List ℕ) (j : ℕ)
+      → ShelfSpan (shelfBase tb (window tb j)) (windowSize tb (window tb j)) (rowFrom tb j) (rowTo tb j)
+      → smallest (entriesIn width nodes) (rowFrom tb j) (rowTo tb j) ≡ smallest (windowShelf (window tb j) width nodes) (askedFrom tb j) (askedTo tb j)
+  window-found width nodes j span =
       let base : ℕ = shelfBase tb (window tb j) in
       let from : rowFrom tb j - base ≡ askedFrom tb j = omega arith in
       let to : rowTo tb j - base ≡ askedTo tb j = omega arith in
-      rw (from, to) at (shelf-found kept width nodes base (windowSize tb (window tb j)) (rowFrom tb j) (rowTo tb j) first last place count n m)
+      rw (from, to) at (shelf-found width nodes base (windowSize tb (window tb j)) (rowFrom tb j) (rowTo tb j) span)
+
+  -- and visits as many cells
+  pub window-visits : (j : ℕ) → visits (levels (windowSize tb (window tb j))) (rowFrom tb j - shelfBase tb (window tb j)) (rowTo tb j - shelfBase tb (window tb j)) ≡ visits (levels (windowSize tb (window tb j))) (askedFrom tb j) (askedTo tb j)
+  window-visits j =
+      let from : rowFrom tb j - shelfBase tb (window tb j) ≡ askedFrom tb j = omega arith in
+      let to : rowTo tb j - shelfBase tb (window tb j) ≡ askedTo tb j = omega arith in
+      rw (from, to) refl

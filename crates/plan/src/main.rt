@@ -6,6 +6,6 @@ fn main() {
     let mut table = io::large_buffer();
     let length = io::read_full(STDIN_FILENO, &mut table);
     let mut plan = [0u8; run::OUTPUT];
-    let printed = run::murdzeki_plan(&table[..length], &mut plan);
+    let printed = run::whole_run(&table[..length], &mut plan);
     io::write_all(STDOUT_FILENO, &plan[..printed]);
 }

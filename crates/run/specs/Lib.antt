@@ -2,3 +2,5 @@ pub mod Printing
 pub mod Whole
 pub mod Sound
 pub mod OfPlan
+pub mod Presses
+pub mod Within

@@ -1,6 +1,6 @@
 -- What is printed is what *Plan* gives for the numbers read (document 01, "The plan"): the lines of the partners and layouts that it hands back, by the
 -- running order, and its totals.
-use Prim.Native.Nat.{ℕ, suc, _<_}
+use Prim.Native.Nat.{ℕ, _<_}
 use mathlib.Core.Path.{_≡_, refl, ap, _∙_}
 use mathlib.Core.Logic.{⊎-elim}
 use mathlib.Core.Bool.{Bool, true, false, cond}
@@ -26,7 +26,7 @@ use Rattle.model.specs.declared.Totals.{Totals}
 use Rattle.model.specs.Rival.{Pair}
 use Rattle.laws.specs.Booleans.{answers}
 use Rattle.laws.specs.Numbers.{numbers-before}
-use Rattle.laws.specs.Lists.{all-mem}
+use Rattle.laws.specs.Lists.{all-mem, at-all}
 use Rattle.matching.specs.Passes.{Run, done, matched, alone, greedy-run}
 use Rattle.matching.specs.Partners.{passes-places, partner-cell}
 use Rattle.matching.specs.MaximumAtEveryCut.{partners-front}
@@ -43,10 +43,6 @@ heldLine tb partners uppers layouts i =
     (cond (ltb (place tb i) (place tb (getD partners i FFFF))) (pairLine i (getD partners i FFFF) (getD uppers i FFFF) (getD layouts i FFFF)) [])
 
 -- ---- lines by pass and lines by turn
-
-all-at : (P : Pass → Type 0) (l : List Pass) (d : Pass) → ((k : ℕ) → k < length l → P (getD l k d)) → All P l
-all-at P [] d h = tt
-all-at P (x ∷ xs) d h = (h 0 (omega arith), all-at P xs d (λ k l. h (suc k) (omega arith)))
 
 without-silent : (h : ℕ → List ℕ) (j : ℕ) → h j ≡ [] → (vs : List ℕ) → flatMap h (without j vs) ≡ flatMap h vs
 unfolding without select flatMap
@@ -102,7 +98,7 @@ module _ (tb : Table) (a : Accepted tb) (rest above more : List ℕ) where
   lines-held : flatMap (passLine tb) (passes tb) ≡ flatMap (heldLine tb (Planning.partners tb ++ rest) (Planning.upperLayouts tb ++ above) (Planning.printedLayouts tb ++ more)) (runningOrder tb)
   lines-held =
       by-turn (compatible tb) (passLine tb) (heldLine tb (Planning.partners tb ++ rest) (Planning.upperLayouts tb ++ above) (Planning.printedLayouts tb ++ more)) (rw passes-run (greedy-run (compatible tb) (runningOrder tb)))
-      (all-at (Agrees (compatible tb) (passLine tb) (heldLine tb (Planning.partners tb ++ rest) (Planning.upperLayouts tb ++ above) (Planning.printedLayouts tb ++ more))) (passes tb) (single 0) (λ k h. line-agrees k h (planPass tb k) refl))
+      (at-all (Agrees (compatible tb) (passLine tb) (heldLine tb (Planning.partners tb ++ rest) (Planning.upperLayouts tb ++ above) (Planning.printedLayouts tb ++ more))) (passes tb) (single 0) (λ k h. line-agrees k h (planPass tb k) refl))
 
 -- document 01: all lines are those that *Plan* gives for the numbers read
 pub run-prints-plan :

@@ -1,23 +1,26 @@
--- The whole run put together: arrays with room for the jobs of the input, and what the run prints and answers.
+-- A run put together: arrays with room for the jobs of the input, and what the run prints and answers.
 use Prim.Native.Nat.{ℕ, _+_, _*_, _^_, _≤_, _<_}
-use mathlib.Core.Path.{_≡_, refl, sym, _∙_}
+use mathlib.Core.Path.{_≡_, refl}
+use mathlib.Core.Bool.{Bool, true, _&&_}
 use mathlib.Core.List.{List}
 use native.Mathlib.Nat.{sub-zero}
 use native.Mathlib.Omega.{arith}
 use lib.ListN.{length, take, replicate, length-replicate}
 use lib.Seq.{length-take-le}
-use borrow.Author.Tests.{lt-ltb, le-ltb}
+use lib.Dec.{leb}
 use Rattle.model.specs.Tree.{FFFF, layoutLimit}
-use Rattle.model.specs.Jobs.{jobLimit}
-use Rattle.model.specs.Table.{Reading, stopped, readTable}
-use Rattle.model.specs.Output.{planBytes, refusalBytes, readingBytes, runBytes, outputBytes, outputVerdict, runLength, runOutput}
-use Rattle.model.specs.Outcomes.{RunOutcome}
+use Rattle.model.specs.Jobs.{Table, jobLimit}
+use Rattle.model.specs.Grouping.{leastLanes, mostLanes}
+use Rattle.model.specs.Table.{Reading, read, stopped}
+use Rattle.model.specs.Output.{planBytes, refusalBytes, readingBytes, groupReadingBytes}
 use Rattle.model.specs.declared.Refusal.{Refusal}
 use Rattle.reading.specs.Steps.{Unused, Room, BuffersReady, held}
 use Rattle.table.specs.Whole.{TableHeld}
 use Rattle.sweep_laws.specs.Room.{sweep-room}
 use Rattle.passes.specs.Making.{Roomy}
 use Rattle.lines.specs.Writing.{Printed}
+use Rattle.run.specs.declared.Press.{Press}
+use Rattle.run.specs.declared.Press.the-variants as press
 
 -- a table of so few jobs, or of some, is run in arrays of that size
 abbrev pub fewJobs : ℕ
@@ -68,24 +71,32 @@ run-ready input parents tops bottoms marks windows work e a =
 
 -- ---- what is printed
 
-pub refusal-printed : (input output : List ℕ) (r : Refusal) (n : ℕ) (output′ : List ℕ) → readTable input ≡ stopped (r .number) (r .place) → Printed (refusalBytes (r .number) (r .place)) output n output′ → Printed (runBytes input) output n output′
-unfolding runBytes readingBytes
-refusal-printed input output r n output′ e p = rw e p
+-- for a press, of a reading
+abbrev pub pressBytes : Press → Reading → List ℕ
+pressBytes press.TwoLanes t = readingBytes t
+pressBytes (press.FullPasses lanes) t = groupReadingBytes (lanes .0) t
 
--- output long enough, and too short
-pub run-outcome : (input output : List ℕ) (r : ℕ) (output′ : List ℕ) → outputBytes ≤ length output → Printed (runBytes input) output r output′ → RunOutcome input output r output′
-unfolding runLength runOutput outputVerdict
-run-outcome input output r output′ h p = record { answered = rw (le-ltb (length output) outputBytes h) (p .counted); written = rw (le-ltb (length output) outputBytes h) (p .holds) }
+-- whether there are such presses
+abbrev pub pressKnown : Press → Bool
+pressKnown press.TwoLanes = true
+pressKnown (press.FullPasses lanes) = leb leastLanes (lanes .0) && leb (lanes .0) mostLanes
 
-pub run-refused : (input output : List ℕ) → length output < outputBytes → RunOutcome input output 0 output
-unfolding runLength runOutput outputVerdict
-run-refused input output h = record { answered = rw (lt-ltb (length output) outputBytes h) refl; written = rw (lt-ltb (length output) outputBytes h) refl }
+-- what the reader turns away is printed for every press
+pub refusal-printed : (x : Press) (t : Reading) (output : List ℕ) (r : Refusal) (n : ℕ) (output′ : List ℕ) → t ≡ stopped (r .number) (r .place) → Printed (refusalBytes (r .number) (r .place)) output n output′ → Printed (pressBytes x t) output n output′
+unfolding readingBytes groupReadingBytes
+refusal-printed press.TwoLanes t output r n output′ e p = rw e p
+refusal-printed (press.FullPasses lanes) t output r n output′ e p = rw e p
+
+-- the plan of a table is what is printed for two lanes
+pub plan-printed : (tb : Table) (output : List ℕ) (r : ℕ) (output′ : List ℕ) → Printed (planBytes tb) output r output′ → Printed (pressBytes press.TwoLanes (read tb)) output r output′
+unfolding readingBytes
+plan-printed tb output r output′ p = p
 
 -- the work cells have room for the jobs that were read
 pub work-roomy : (t : Reading) (input tops bottoms marks windows work parents′ tops′ bottoms′ marks′ windows′ tree : List ℕ) (n m : ℕ) → ArraysFor input tops bottoms marks windows work → length tops′ ≡ length tops → TableHeld t parents′ tops′ bottoms′ marks′ windows′ tree n m → Roomy (length (take m tops′)) work
 work-roomy t input tops bottoms marks windows work parents′ tops′ bottoms′ marks′ windows′ tree n m a same h =
     rw (length-take-le m tops′ (h .holds .tops-hold)) (a .work-room m (omega (arith, h .holds .tops-hold)) (h .holds .few-jobs))
 
-pub plan-printed-as : (t : Reading) (input output : List ℕ) (r : ℕ) (output′ parents tops bottoms marks windows tree : List ℕ) (n m : ℕ) → t ≡ readTable input → TableHeld t parents tops bottoms marks windows tree n m → Printed (planBytes (held parents tops bottoms marks windows n m)) output r output′ → Printed (runBytes input) output r output′
-unfolding runBytes readingBytes
-plan-printed-as t input output r output′ parents tops bottoms marks windows tree n m e h p = rw (sym e ∙ h .whole) p
+-- what is printed of the table held is printed of the reading
+pub printed-as : (x : Press) (t : Reading) (output : List ℕ) (r : ℕ) (output′ parents tops bottoms marks windows tree : List ℕ) (n m : ℕ) → TableHeld t parents tops bottoms marks windows tree n m → Printed (pressBytes x (read (held parents tops bottoms marks windows n m))) output r output′ → Printed (pressBytes x t) output r output′
+printed-as x t output r output′ parents tops bottoms marks windows tree n m h p = rw (h .whole) p

@@ -1,21 +1,29 @@
-// *Whole run* (document 01, "What each operation turns away"): from a table's bytes to the bytes of its plan.
+// *Whole run* (document 01, "What each operation turns away"), from a table's bytes to the bytes of its plan, and the second one beside it, for a press with more lanes
+// (document 02, 2026-07).
 mod print;
 
+use group_sweep::Grouped;
 use model::JobNumber;
+use model::LaneCount;
 use model::LayoutNumber;
 use model::Refusal;
 use model::TableRead;
 use settle::TREE;
+ghost use mathlib.Core.Path.{_≡_};
+ghost use mathlib.Core.Bool.{true};
 ghost use Prim.Native.Nat.{_*_, _≤_};
 ghost use lib.ListN.{length};
-ghost use Rattle.model.specs.Jobs.{tableOf};
-ghost use Rattle.model.specs.Output.{planBytes, refusalBytes, runBytes, outputBytes};
-ghost use Rattle.model.specs.Outcomes.{RunOutcome};
+ghost use Rattle.model.specs.Jobs.{Table, tableOf};
+ghost use Rattle.model.specs.Table.{read, readTable};
+ghost use Rattle.model.specs.Output.{planBytes, refusalBytes, groupReadingBytes, outputBytes};
+ghost use Rattle.model.specs.Outcomes.{RunOutcome, GroupRunOutcome};
 ghost use Rattle.settle.specs.Spanned.{Spanned};
 ghost use Rattle.jobs.specs.Accepted.{Accepted};
 ghost use Rattle.lines.specs.Writing.{Printed};
 ghost use Rattle.passes.specs.Making.{Roomy};
-ghost use Rattle.run.specs.Whole.{ArraysFor, fewJobs, someJobs};
+ghost use Rattle.groups.specs.GroupPlan.{GroupsMade};
+ghost use Rattle.run.specs.Whole.{ArraysFor, pressKnown, pressBytes, fewJobs, someJobs};
+ghost use Rattle.run.specs.Presses.{PressOutcome};
 
 // Bytes of output that the whole run needs.
 pub const OUTPUT: usize = 40960;
@@ -29,6 +37,22 @@ const FEW_BYTES: usize = FEW * frame::LONG_LINE;
 const SOME: usize = 1024;
 
 const SOME_BYTES: usize = SOME * frame::LONG_LINE;
+
+// The press that a run is for: one with two lanes, which runs a job alone where it has no partner, or one that takes full passes alone.
+enum Press {
+    TwoLanes,
+    FullPasses(LaneCount),
+}
+
+// Whether there are such presses.
+fn press_known(press: Press) -> bool
+    ensures { λ r. ⌜ r ≡ pressKnown «press» ⌝ }
+{
+    match press {
+        Press::TwoLanes => true,
+        Press::FullPasses(lanes) => lanes.is_known(),
+    }
+}
 
 // Prints a refusal.
 fn print_refusal(output: &mut [u8], refusal: Refusal) -> usize
@@ -62,7 +86,38 @@ fn print_table(
     print::print_plan(parents, tree, tops, bottoms, work, totals, output)
 }
 
-// The whole run in lent arrays that have room for the jobs of the input.
+// Prints the groups of a table that was read and settled, or refusal 14 where one of them is not full.
+fn print_grouping(
+    parents: &[u16],
+    tree: &[u16; TREE],
+    bottoms: &[u16],
+    work: &[u16],
+    members: &[u16],
+    lanes: LaneCount,
+    grouped: Grouped,
+    output: &mut [u8],
+) -> usize
+    requires { ⌜ ((tb : Table) × GroupsMade tb (lanes .0) (now parents) (now tree) (now bottoms) «grouped» (now members) (now work)) ⌝ }
+    requires { ⌜ outputBytes ≤ length (now output) ⌝ }
+    ensures { λ r. ⌜ ((tb : Table) → GroupsMade tb (lanes .0) (now (parents .entry)) (now (tree .entry)) (now (bottoms .entry)) «grouped» (now (members .entry)) (now (work .entry)) → Printed (groupReadingBytes (lanes .0) (read tb)) (now (output .entry)) r (now (output .exit))) ⌝ }
+{
+    match grouped {
+        Grouped::Full(groups) => {
+            group_lines::print_groups(parents, tree, bottoms, work, members, lanes, groups, output)
+        }
+        Grouped::Short => {
+            print_refusal(
+                output,
+                Refusal {
+                    number: 14,
+                    place: 0,
+                },
+            )
+        }
+    }
+}
+
+// A run in lent arrays that have room for the jobs of the input. For a press that takes full passes alone the places of the groups stand in the place of the tops.
 fn run_in(
     input: &[u8],
     output: &mut [u8],
@@ -71,10 +126,12 @@ fn run_in(
     marks: &mut [u8],
     windows: &mut [u8],
     work: &mut [u16],
+    press: Press,
 ) -> usize
     requires { ⌜ outputBytes ≤ length (now output) ⌝ }
     requires { ⌜ ArraysFor (now input) (now tops) (now bottoms) (now marks) (now windows) (now work) ⌝ }
-    ensures { λ r. ⌜ Printed (runBytes (now (input .entry))) (now (output .entry)) r (now (output .exit)) ⌝ }
+    requires { ⌜ pressKnown «press» ≡ true ⌝ }
+    ensures { λ r. ⌜ Printed (pressBytes «press» (readTable (now (input .entry)))) (now (output .entry)) r (now (output .exit)) ⌝ }
 {
     let mut parents = [model::ABSENT; LayoutNumber::LIMIT];
     let mut tree = [0u16; TREE];
@@ -92,25 +149,52 @@ fn run_in(
         TableRead::Read(c) => {
             let layouts = c.layouts as usize;
             let jobs = c.jobs as usize;
-            print_table(
-                &parents[..layouts],
-                &tree,
-                &mut tops[..jobs],
-                &bottoms[..jobs],
-                &mut marks[..jobs],
-                &windows[..jobs],
-                work,
-                output,
-            )
+            match press {
+                Press::TwoLanes => {
+                    print_table(
+                        &parents[..layouts],
+                        &tree,
+                        &mut tops[..jobs],
+                        &bottoms[..jobs],
+                        &mut marks[..jobs],
+                        &windows[..jobs],
+                        work,
+                        output,
+                    )
+                }
+                Press::FullPasses(lanes) => {
+                    let grouped = groups::make_groups(
+                        &parents[..layouts],
+                        &tree,
+                        &mut tops[..jobs],
+                        &bottoms[..jobs],
+                        &mut marks[..jobs],
+                        &windows[..jobs],
+                        work,
+                        lanes,
+                    );
+                    print_grouping(
+                        &parents[..layouts],
+                        &tree,
+                        &bottoms[..jobs],
+                        work,
+                        &tops[..jobs],
+                        lanes,
+                        grouped,
+                        output,
+                    )
+                }
+            }
         }
     }
 }
 
 // The run in arrays for few jobs.
-fn run_few(input: &[u8], output: &mut [u8]) -> usize
+fn run_few(input: &[u8], output: &mut [u8], press: Press) -> usize
     requires { ⌜ outputBytes ≤ length (now output) ⌝ }
     requires { ⌜ length (now input) ≤ 11 * fewJobs ⌝ }
-    ensures { λ r. ⌜ Printed (runBytes (now (input .entry))) (now (output .entry)) r (now (output .exit)) ⌝ }
+    requires { ⌜ pressKnown «press» ≡ true ⌝ }
+    ensures { λ r. ⌜ Printed (pressBytes «press» (readTable (now (input .entry)))) (now (output .entry)) r (now (output .exit)) ⌝ }
 {
     let mut tops = [model::ABSENT; FEW];
     let mut bottoms = [model::ABSENT; FEW];
@@ -125,14 +209,16 @@ fn run_few(input: &[u8], output: &mut [u8]) -> usize
         &mut marks,
         &mut windows,
         &mut work,
+        press,
     )
 }
 
 // In arrays for some jobs.
-fn run_some(input: &[u8], output: &mut [u8]) -> usize
+fn run_some(input: &[u8], output: &mut [u8], press: Press) -> usize
     requires { ⌜ outputBytes ≤ length (now output) ⌝ }
     requires { ⌜ length (now input) ≤ 11 * someJobs ⌝ }
-    ensures { λ r. ⌜ Printed (runBytes (now (input .entry))) (now (output .entry)) r (now (output .exit)) ⌝ }
+    requires { ⌜ pressKnown «press» ≡ true ⌝ }
+    ensures { λ r. ⌜ Printed (pressBytes «press» (readTable (now (input .entry)))) (now (output .entry)) r (now (output .exit)) ⌝ }
 {
     let mut tops = [model::ABSENT; SOME];
     let mut bottoms = [model::ABSENT; SOME];
@@ -147,13 +233,15 @@ fn run_some(input: &[u8], output: &mut [u8]) -> usize
         &mut marks,
         &mut windows,
         &mut work,
+        press,
     )
 }
 
 // In arrays for the most jobs.
-fn run_many(input: &[u8], output: &mut [u8]) -> usize
+fn run_many(input: &[u8], output: &mut [u8], press: Press) -> usize
     requires { ⌜ outputBytes ≤ length (now output) ⌝ }
-    ensures { λ r. ⌜ Printed (runBytes (now (input .entry))) (now (output .entry)) r (now (output .exit)) ⌝ }
+    requires { ⌜ pressKnown «press» ≡ true ⌝ }
+    ensures { λ r. ⌜ Printed (pressBytes «press» (readTable (now (input .entry)))) (now (output .entry)) r (now (output .exit)) ⌝ }
 {
     let mut tops = [model::ABSENT; JobNumber::LIMIT];
     let mut bottoms = [model::ABSENT; JobNumber::LIMIT];
@@ -168,23 +256,47 @@ fn run_many(input: &[u8], output: &mut [u8]) -> usize
         &mut marks,
         &mut windows,
         &mut work,
+        press,
     )
 }
 
-// Reads a table's bytes, plans its passes and prints the plan, or the refusal; the answer is how many bytes were printed. Output below
-// 40,960 bytes is refusal 8: the answer is 0, and nothing is written.
-#[no_mangle]
-pub extern "C" fn murdzeki_plan(input: &[u8], output: &mut [u8]) -> usize
-    ensures { λ r. ⌜ RunOutcome (now (input .entry)) (now (output .entry)) r (now (output .exit)) ⌝ }
+// The run for a press: 8 and 13, and then in arrays by the size of the input.
+fn run_for(input: &[u8], output: &mut [u8], press: Press) -> usize
+    ensures { λ r. ⌜ PressOutcome (now (input .entry)) (now (output .entry)) r (now (output .exit)) «press» ⌝ }
 {
     if output.len() < OUTPUT {
         return 0;
     }
+    if !press_known(press) {
+        return print_refusal(
+            output,
+            Refusal {
+                number: 13,
+                place: 0,
+            },
+        );
+    }
     if input.len() <= FEW_BYTES {
-        return run_few(input, output);
+        return run_few(input, output, press);
     }
     if input.len() <= SOME_BYTES {
-        return run_some(input, output);
+        return run_some(input, output, press);
     }
-    run_many(input, output)
+    run_many(input, output, press)
+}
+
+// Reads a table's bytes, plans its passes and prints the plan, or the refusal; the answer is how many bytes were printed. Output below
+// 40,960 bytes is refusal 8: the answer is 0, and nothing is written.
+pub fn whole_run(input: &[u8], output: &mut [u8]) -> usize
+    ensures { λ r. ⌜ RunOutcome (now (input .entry)) (now (output .entry)) r (now (output .exit)) ⌝ }
+{
+    run_for(input, output, Press::TwoLanes)
+}
+
+// The same for a press with so many lanes that takes full passes alone: the jobs in groups, or the refusal, which is 13 where there is no such press and 14 where no
+// full grouping exists.
+pub fn group_run(input: &[u8], output: &mut [u8], lanes: LaneCount) -> usize
+    ensures { λ r. ⌜ GroupRunOutcome (lanes .0) (now (input .entry)) (now (output .entry)) r (now (output .exit)) ⌝ }
+{
+    run_for(input, output, Press::FullPasses(lanes))
 }

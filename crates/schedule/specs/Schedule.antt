@@ -1,7 +1,7 @@
 -- A schedule: all that the sweep knows of a table, by place in the running order. Places, slots, spans of slots and shelves; no tree, layout or job. The shelves of all
 -- windows stand side by side over one row of slots, so that a slot or a span of one shelf is one of the row; where a shelf begins and how many slots it has count in the
 -- visits alone.
-use Prim.Native.Nat.{ℕ, _+_, _-_, _^_, _<_, _≤_}
+use Prim.Native.Nat.{ℕ, pred, _+_, _-_, _^_, _<_, _≤_}
 use mathlib.Core.Path.{_≡_}
 use mathlib.Core.Bool.{Bool, cond, _&&_}
 use mathlib.Core.List.{List}
@@ -10,6 +10,7 @@ use lib.Dec.{eqb, leb, ltb}
 use Rattle.model.specs.Lists.{numbers, elem, total}
 use Rattle.model.specs.Tree.{FFFF}
 use Rattle.model.specs.Greedy.{Pass, pair, single, greedy}
+use Rattle.model.specs.Grouping.{grouping}
 use Rattle.model.specs.Visits.{levels, visits}
 
 pub record Schedule : Type 0 where
@@ -58,6 +59,10 @@ module _ (s : Schedule) where
   unfoldable pub passesByPlace : List Pass
   passesByPlace = greedy fits (numbers places)
 
+  -- the grouping rule over it, for a press with g lanes
+  unfoldable pub groupsByPlace : ℕ → List (List ℕ)
+  groupsByPlace g = grouping (pred g) fits (numbers places)
+
   -- the visits of the lookup at a place, in its own shelf; a place that asks nobody makes none
   unfoldable pub visitsAt : ℕ → ℕ
   visitsAt p = cond (eqb (toAt p) 0) 0 (visits (levels (sizeAt p)) (fromAt p - baseAt p) (toAt p - baseAt p))
@@ -90,6 +95,8 @@ module _ (s : Schedule) where
     pub shelf-begins : (p : ℕ) → p < places → 0 < toAt p → baseAt p ≤ fromAt p
     pub shelf-ends : (p : ℕ) → p < places → toAt p ≤ baseAt p + sizeAt p
     pub shelf-inside : (p : ℕ) → p < places → sizeAt p ≤ places
+    -- a place whose slot lies in the shelf of another has that shelf
+    pub shelf-same : (p q : ℕ) → p < places → q < places → baseAt p ≤ slotAt q → slotAt q < baseAt p + sizeAt p → (baseAt q ≡ baseAt p) × (sizeAt q ≡ sizeAt p)
     pub due-inside : (p : ℕ) → p < places → dueAt p ≤ length (s .reached)
     pub due-rises : (p q : ℕ) → p ≤ q → q < places → dueAt p ≤ dueAt q
     pub reached-length : length (s .reached) ≤ places

@@ -1,6 +1,6 @@
 -- The schedule of an accepted table is sound and defines the table's own compatibility (000, Theorem 6, with slots and reach), so the greedy rule over it
 -- makes the plan, and its visits are the cell count.
-use Prim.Native.Nat.{ℕ, _+_, _-_, _<_, _≤_, _^_}
+use Prim.Native.Nat.{ℕ, pred, _+_, _-_, _<_, _≤_, _^_}
 use mathlib.Core.Path.{_≡_, refl, sym, ap, _∙_}
 use mathlib.Core.Logic.{⊎-elim}
 use mathlib.Core.Bool.{Bool, true, false, cond, not, _&&_, and-false, and-eq-true-iff}
@@ -10,11 +10,12 @@ use native.Mathlib.Decide.{ℕ-discrete}
 use lib.ListN.{length, length-map}
 use lib.Dec.{leb, ltb}
 use borrow.Author.Tests.{lt-ltb, le-leb, ne-eqb, not-true}
-use Rattle.model.specs.Lists.{numbers, indexOf, total}
+use Rattle.model.specs.Lists.{numbers, indexOf, total, AllPairs}
 use Rattle.model.specs.Tree.{FFFF}
 use Rattle.model.specs.Jobs.{Table, jobs, solo, bare, asks, window, sameWindow, shares, highestDepth}
 use Rattle.model.specs.Order.{windowSize, slot}
 use Rattle.model.specs.Greedy.{compatible, passes}
+use Rattle.model.specs.Grouping.{groupsOf}
 use Rattle.model.specs.Visits.{levels, askedFrom, askedTo, lookupVisits, passVisits, cellCount}
 use Rattle.model.specs.Planning.{pairCount, pairs}
 use Rattle.laws.specs.Booleans.{answers}
@@ -26,8 +27,8 @@ use Rattle.laws.specs.Counting.{count-bound}
 use Rattle.jobs.specs.Accepted.{Accepted}
 use Rattle.matching.specs.Compatible.{window-same, compatible-asks}
 use Rattle.matching.specs.RunningOrder.{place-of-job}
-use Rattle.matching.specs.Renamed.{renamed, greedy-renamed, pairs-renamed, total-renamed}
-use Rattle.schedule.specs.Schedule.{places, slotAt, fromAt, toAt, dueAt, baseAt, sizeAt, fits, passesByPlace, visitsAt, visitsOf, totalVisits, Sound}
+use Rattle.matching.specs.Renamed.{renamed, NamesApart, greedy-renamed, grouping-renamed, pairs-renamed, total-renamed}
+use Rattle.schedule.specs.Schedule.{places, slotAt, fromAt, toAt, dueAt, baseAt, sizeAt, fits, passesByPlace, groupsByPlace, visitsAt, visitsOf, totalVisits, Sound}
 use Rattle.schedule.specs.OfTable.{jobAt, asking, bottomDepth, reachOrder, due, shelfBase, rowSlot, rowFrom, rowTo, scheduleOf}
 use Rattle.schedule_laws.specs.Places.{job-known, job-once, running-list, later-depth, theorem-6-by-place}
 use Rattle.schedule_laws.specs.Asked.{asked-slot, asked-bound, asks-itself}
@@ -148,6 +149,8 @@ module _ (tb : Table) where
           shelf-begins = λ p h. from-behind p (here p h);
           shelf-ends = λ p h. to-before p (here p h);
           shelf-inside = λ p h. rw (places-are, size-is p (here p h)) (omega (arith, shelf-within tb (window tb (jobAt tb p))));
+          shelf-same = λ p q h k begins ends. let e = same-shelf p q (here p h) (here q k) begins ends in
+              (base-is q (here q k) ∙ rw (← e) (sym (base-is p (here p h))), size-is q (here q k) ∙ rw (← e) (sym (size-is p (here p h))));
           due-inside = λ p h. rw (due-is p (here p h), reached-is) (due-within tb p);
           due-rises = λ p q l h. due-rise p q l (here q h);
           reached-length = rw (reached-is, places-are, reach-length tb) (count-bound (asking tb) (jobs tb));
@@ -208,13 +211,24 @@ module _ (tb : Table) where
 
     -- ---- so the sweep over it makes the plan
 
+    jobs-apart : NamesApart (jobAt tb) (numbers (jobs tb))
+    jobs-apart x y m n e = job-once tb x y (numbers-mem (jobs tb) m) (numbers-mem (jobs tb) n) e
+
+    fits-later : AllPairs (λ (x y : ℕ). fits (scheduleOf tb) x y ≡ compatible tb (jobAt tb x) (jobAt tb y)) (numbers (jobs tb))
+    fits-later = pairwise-imply _<_ (λ (x y : ℕ). fits (scheduleOf tb) x y ≡ compatible tb (jobAt tb x) (jobAt tb y)) (numbers (jobs tb)) (λ x y m n l. schedule-fits x y l (numbers-mem (jobs tb) n)) (numbers-rise (jobs tb))
+
     pub schedule-passes : map (renamed (jobAt tb)) (passesByPlace (scheduleOf tb)) ≡ passes tb
     unfolding passesByPlace passes
     schedule-passes =
         rw (places-are, running-list tb)
-        (greedy-renamed (jobAt tb) (fits (scheduleOf tb)) (compatible tb) (numbers (jobs tb))
-        (λ x y m n e. job-once tb x y (numbers-mem (jobs tb) m) (numbers-mem (jobs tb) n) e)
-        (pairwise-imply _<_ (λ (x y : ℕ). fits (scheduleOf tb) x y ≡ compatible tb (jobAt tb x) (jobAt tb y)) (numbers (jobs tb)) (λ x y m n l. schedule-fits x y l (numbers-mem (jobs tb) n)) (numbers-rise (jobs tb))))
+        (greedy-renamed (jobAt tb) (fits (scheduleOf tb)) (compatible tb) (numbers (jobs tb)) jobs-apart fits-later)
+
+    -- and a sweep for a press with more lanes its groups
+    pub schedule-groups : (g : ℕ) → map (map (jobAt tb)) (groupsByPlace (scheduleOf tb) g) ≡ groupsOf tb g
+    unfolding groupsByPlace groupsOf
+    schedule-groups g =
+        rw (places-are, running-list tb)
+        (grouping-renamed (jobAt tb) (pred g) (fits (scheduleOf tb)) (compatible tb) (numbers (jobs tb)) jobs-apart fits-later)
 
     pub schedule-pairs : total pairCount (passesByPlace (scheduleOf tb)) ≡ pairs tb
     unfolding pairs

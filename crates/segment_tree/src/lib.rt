@@ -11,7 +11,7 @@ ghost use lib.ListN.{length};
 ghost use lib.Count.{trailingZeros};
 ghost use Rattle.model.specs.Jobs.{jobLimit};
 ghost use Rattle.model.specs.Visits.{levels, visits};
-ghost use Rattle.sweep_laws.specs.SegmentTree.{SegmentTree, Clearable, Cleared, Insertable, Inserted, Removed, entriesIn, smallest, Searchable, Minimum};
+ghost use Rattle.sweep_laws.specs.SegmentTree.{SegmentTree, Clearable, Cleared, Insertable, Inserted, Removed, entriesIn, smallest, ShelfSpan, Searchable};
 ghost use Rattle.laws.specs.Least.{leastOf};
 ghost use Rattle.sweep_laws.specs.Nodes.{Siblings};
 ghost use Rattle.sweep_laws.specs.NodeSpans.{nodeAt, Narrowable, Narrowed};
@@ -220,57 +220,48 @@ fn range_minimum(nodes: &[u16], shape: Shape, from: usize, to: usize) -> Rank
     level_minimum(nodes, span.left, span.right, span.least)
 }
 
-// What a lookup answers: the smallest place, FFFF for none, and how many nodes document 01 counts for it.
-pub struct Found {
-    pub place: Rank,
-    pub visits: u32,
-}
-
 // The places that can wait in a span: none before the first, and none after the last.
 pub struct Candidates {
     pub first: Rank,
     pub last: Rank,
 }
 
-// Looks for the smallest place in the slots from `from` up to `to`, which are a shelf's. Where the first that can wait there does, in `slot`, or comes after the last, there is
-// nothing to search for; another slot than its own costs a search and no more.
+// The smallest place in the slots from `from` up to `to`, FFFF for none. Where the first that can wait there does, in `slot`, or comes after the last, there is nothing to
+// search for; another slot than its own costs a search and no more.
 pub fn lookup(
     nodes: &[u16],
     shape: Shape,
-    shelf: Shelf,
     from: usize,
     to: usize,
     slot: usize,
     candidates: Candidates,
-) -> Found
-    requires { ⌜ Searchable (shape .kept) (shape .width) (now nodes) (shelf .base) (shelf .size) from to (candidates .first .0) (candidates .last .0) ⌝ }
-    ensures { λ r. ⌜ Minimum (shape .width) (now (nodes .entry)) (shelf .base) (shelf .size) from to (r .place .0) (r .visits) ⌝ }
+) -> Rank
+    requires { ⌜ Searchable (shape .kept) (shape .width) (now nodes) from to (candidates .first .0) (candidates .last .0) ⌝ }
+    ensures { λ r. ⌜ r .0 ≡ smallest (entriesIn (shape .width) (now (nodes .entry))) from to ⌝ }
 {
     if to <= from {
-        return Found {
-            place: Rank(model::ABSENT),
-            visits: 1,
-        };
+        return Rank(model::ABSENT);
     }
-    let visits = count_visits(levels_of(shelf.size), from - shelf.base, to - shelf.base);
     let first = candidates.first;
     let last = candidates.last;
     if last.comes_before(first) {
-        return Found {
-            place: Rank(model::ABSENT),
-            visits,
-        };
+        return Rank(model::ABSENT);
     }
     if from <= slot && slot < to {
         if first.equals(Rank(nodes[shape.width + slot])) {
-            return Found {
-                place: first,
-                visits,
-            };
+            return first;
         }
     }
-    Found {
-        place: range_minimum(nodes, shape, from, to),
-        visits,
+    range_minimum(nodes, shape, from, to)
+}
+
+// How many nodes document 01 counts for a lookup of the slots from `from` up to `to`, which are a shelf's.
+pub fn lookup_visits(shelf: Shelf, from: usize, to: usize) -> u32
+    requires { ⌜ ShelfSpan (shelf .base) (shelf .size) from to ⌝ }
+    ensures { λ r. ⌜ r ≡ visits (levels (shelf .size)) (from - shelf .base) (to - shelf .base) ⌝ }
+{
+    if from < to {
+        return count_visits(levels_of(shelf.size), from - shelf.base, to - shelf.base);
     }
+    1
 }

@@ -6,7 +6,6 @@ use model::Rank;
 use schedule::NODES;
 use schedule::STARTS;
 use segment_tree::Candidates;
-use segment_tree::Found;
 use segment_tree::Shape;
 use segment_tree::Shelf;
 ghost use mathlib.Core.Path.{_≡_};
@@ -17,7 +16,7 @@ ghost use Rattle.schedule.specs.Schedule.{Schedule};
 ghost use Rattle.schedule.specs.InWork.{slotPart, treePart, Swept};
 ghost use Rattle.sweep_laws.specs.SegmentTree.{entriesIn, insertEntry, removeEntry};
 ghost use Rattle.sweep_laws.specs.WorkCells.{treeIn, TreeChanged};
-ghost use Rattle.sweep_laws.specs.Sweeping.{Sweepable, ShelfKnown, ShelfAt, Sweeping, UpTo, PlaceInsertable, PlaceRemovable, Pairable, paired, MateSearchable, PassedBy, MateFound, Asking, Chosen, Steppable, ReachedAt, SteppedFrom};
+ghost use Rattle.sweep_laws.specs.Sweeping.{Sweepable, ShelfKnown, ShelfAt, Sweeping, UpTo, PlaceInsertable, PlaceRemovable, MateTakable, MateTaken, MateSearchable, PassedBy, MateFound, Asking, Chosen, Steppable, ReachedAt, SteppedFrom};
 
 // What a sweep comes to: how many passes have two places, and how many nodes document 01 counts for its lookups.
 pub struct Matched {
@@ -26,9 +25,9 @@ pub struct Matched {
 }
 
 // How far the sweep has reached: how many of the places that can be found, and a place that none of these comes after.
-struct Reached {
-    next: usize,
-    last: Rank,
+pub struct Reached {
+    pub next: usize,
+    pub last: Rank,
 }
 
 // How far a sweep has come: what it has reached, and what it has made.
@@ -50,7 +49,7 @@ fn insert_place(work: &mut [u16], count: usize, shape: Shape, place: Rank)
 }
 
 // A place waits no longer.
-fn remove_place(work: &mut [u16], count: usize, shape: Shape, place: Rank)
+pub fn remove_place(work: &mut [u16], count: usize, shape: Shape, place: Rank)
     requires { ⌜ PlaceRemovable count (shape .kept) (shape .width) (place .0) (now work) ⌝ }
     ensures { λ r. ⌜ TreeChanged count (shape .kept) (shape .width) (removeEntry (getD (now (work .entry)) (slotPart * count + place .0) 0) (entriesIn (shape .width) (treeIn count (now (work .entry))))) (now (work .entry)) (now (work .exit)) ⌝ }
 {
@@ -70,7 +69,7 @@ fn later(a: Rank, b: Rank) -> Rank
 }
 
 // Inserts what is reached at the turn of a place, and answers what is reached then.
-fn insert_reached(
+pub fn insert_reached(
     work: &mut [u16],
     count: usize,
     shape: Shape,
@@ -90,16 +89,6 @@ fn insert_reached(
         at += 1;
     }
     Reached { next: due, last }
-}
-
-// Leaves each of two places as the mate of the other; the later asks nobody any more.
-fn set_pair(work: &mut [u16], count: usize, place: Rank, mate: Rank)
-    requires { ⌜ Pairable count (place .0) (mate .0) (now work) ⌝ }
-    ensures { λ r. ⌜ now (work .exit) ≡ paired count (place .0) (mate .0) (now (work .entry)) ⌝ }
-{
-    schedule::set_mate(work, count, place, mate);
-    schedule::set_mate(work, count, mate, place);
-    schedule::end_asking(work, count, mate);
 }
 
 // The shelf of a place, that of its job's window.
@@ -144,8 +133,8 @@ fn approach(
     candidates: Candidates,
     to: usize,
 ) -> Rank
-    requires { ⌜ ((base : ℕ) × (size : ℕ) × MateSearchable count (shape .kept) (shape .width) base size (place .0) (candidates .first .0) (candidates .last .0) to (now work)) ⌝ }
-    ensures { λ r. ⌜ ((base size : ℕ) → MateSearchable count (shape .kept) (shape .width) base size (place .0) (candidates .first .0) (candidates .last .0) to (now (work .entry)) → MateSearchable count (shape .kept) (shape .width) base size (place .0) (r .0) (candidates .last .0) to (now (work .entry))) ⌝ }
+    requires { ⌜ MateSearchable count (shape .kept) (shape .width) (place .0) (candidates .first .0) (candidates .last .0) to (now work) ⌝ }
+    ensures { λ r. ⌜ MateSearchable count (shape .kept) (shape .width) (place .0) (r .0) (candidates .last .0) to (now (work .entry)) ⌝ }
 {
     let from = schedule::from_at(work, count, place);
     let last = candidates.last;
@@ -168,29 +157,44 @@ fn approach(
 }
 
 // Looks for the mate of a place that waits no longer, in the span that it asks for, which ends at `to`.
-fn find_mate(
+pub fn find_mate(
     work: &[u16],
     count: usize,
     shape: Shape,
-    shelf: Shelf,
     place: Rank,
     candidates: Candidates,
     to: usize,
-) -> Found
-    requires { ⌜ MateSearchable count (shape .kept) (shape .width) (shelf .base) (shelf .size) (place .0) (candidates .first .0) (candidates .last .0) to (now work) ⌝ }
-    ensures { λ r. ⌜ MateFound count (shape .width) (shelf .base) (shelf .size) (place .0) to (now (work .entry)) (r .place .0) (r .visits) ⌝ }
+) -> Rank
+    requires { ⌜ MateSearchable count (shape .kept) (shape .width) (place .0) (candidates .first .0) (candidates .last .0) to (now work) ⌝ }
+    ensures { λ r. ⌜ MateFound count (shape .width) (place .0) to (now (work .entry)) (r .0) ⌝ }
 {
-    let last = candidates.last;
-    let first = approach(work, count, shape, place, candidates, to);
-    let further = Candidates { first, last };
     let from = schedule::from_at(work, count, place);
     // No slot where the first comes after the last place of all: then the lookup does not look at it.
-    let slot = schedule::slot_at(work, count, first);
+    let slot = schedule::slot_at(work, count, candidates.first);
     let start = NODES * count;
-    segment_tree::lookup(&work[start..], shape, shelf, from, to, slot, further)
+    segment_tree::lookup(&work[start..], shape, from, to, slot, candidates)
 }
 
-// The turn of a place that asks for a span of its shelf that ends at `to`: it waits no longer, and neither does the mate that it finds.
+// A place takes the mate that is found, if one is: it waits no longer and asks nobody any more.
+pub fn take_mate(work: &mut [u16], count: usize, shape: Shape, place: Rank, mate: Rank)
+    requires { ⌜ MateTakable count (shape .kept) (shape .width) (mate .0) (now work) ⌝ }
+    ensures { λ r. ⌜ MateTaken count (shape .kept) (shape .width) (place .0) (mate .0) (now (work .entry)) (now (work .exit)) ⌝ }
+{
+    if mate.is_none() {
+        return;
+    }
+    remove_place(work, count, shape, mate);
+    schedule::set_mate(work, count, mate, place);
+    schedule::end_asking(work, count, mate);
+}
+
+// What the turn of a place that asks comes to: its mate, FFFF for none, and how many nodes document 01 counts for its lookup.
+struct Found {
+    place: Rank,
+    visits: u32,
+}
+
+// The turn of a place that asks for a span of its shelf that ends at `to`: it waits no longer, and has the mate that it takes, or none.
 fn match_place(
     work: &mut [u16],
     count: usize,
@@ -204,15 +208,18 @@ fn match_place(
     ensures { λ r. ⌜ ((s : Schedule) (next : ℕ) → Asking s count (shape .kept) (shape .width) (shelf .base) (shelf .size) (place .0) (candidates .first .0) (candidates .last .0) next to (now (work .entry)) → Chosen s count (shape .kept) (shape .width) (place .0) next (now (work .entry)) (r .place .0) (r .visits) (now (work .exit))) ⌝ }
 {
     remove_place(work, count, shape, place);
-    let found = find_mate(work, count, shape, shelf, place, candidates, to);
-    let mate = found.place;
-    if mate.is_none() {
-        schedule::set_mate(work, count, place, mate);
-        return found;
+    let from = schedule::from_at(work, count, place);
+    let visits = segment_tree::lookup_visits(shelf, from, to);
+    let last = candidates.last;
+    let first = approach(work, count, shape, place, candidates, to);
+    let further = Candidates { first, last };
+    let mate = find_mate(work, count, shape, place, further, to);
+    take_mate(work, count, shape, place, mate);
+    schedule::set_mate(work, count, place, mate);
+    Found {
+        place: mate,
+        visits,
     }
-    remove_place(work, count, shape, mate);
-    set_pair(work, count, place, mate);
-    found
 }
 
 // The turn of a place: what is due is reached, and the place, unless it is taken, opens a pass, with the mate that it finds or alone.
@@ -277,7 +284,7 @@ fn step(
 }
 
 // How many slots the longest shelf has. Only the speed depends on it, so nothing is promised.
-fn longest_shelf(starts: &[u16; STARTS]) -> usize {
+pub fn longest_shelf(starts: &[u16; STARTS]) -> usize {
     let mut longest = 0;
     let mut window = 0;
     while window + 1 < STARTS {

@@ -12,7 +12,7 @@ use Rattle.sweep_laws.specs.EntryLaws.{entry-slot, slot-cell}
 use Rattle.sweep_laws.specs.WorkCells.{treeIn}
 use Rattle.sweep_laws.specs.Sweeping.{MateSearchable, PassedBy}
 
-module _ (n kept width base size p first last to : ℕ) (work : List ℕ) (m : MateSearchable n kept width base size p first last to work) where
+module _ (n kept width p first last to : ℕ) (work : List ℕ) (m : MateSearchable n kept width p first last to work) where
   abbrev from : ℕ
   from = getD work (fromPart * n + p) 0
 
@@ -40,7 +40,7 @@ module _ (n kept width base size p first last to : ℕ) (work : List ℕ) (m : M
       | no other ↦ omega (arith, other, m .search .no-smaller e held starts below)
     ]
 
-    pub approach-further : MateSearchable n kept width base size p (first + 1) last to work
+    pub approach-further : MateSearchable n kept width p (first + 1) last to work
     approach-further =
         record {
           few = m .few;
@@ -53,9 +53,6 @@ module _ (n kept width base size p first last to : ℕ) (work : List ℕ) (m : M
               record {
                 tree = m .search .tree;
                 inside = m .search .inside;
-                few = m .search .few;
-                begins = m .search .begins;
-                ends = m .search .ends;
                 some-place = omega (arith, m .last-inside, m .few);
                 no-smaller = none-before;
                 no-larger = m .search .no-larger;

@@ -31,18 +31,18 @@ pub mem-remaining : (p n : ℕ) (work : List ℕ) (j : ℕ) → j ≤ p → p < 
 unfolding remaining
 mem-remaining p n work j l h free = mem-select (freeAt n work) (mem-range p j (n - j) l (omega arith)) free
 
-remaining-rises : (n : ℕ) (work : List ℕ) (j : ℕ) → AllPairs _<_ (remaining n work j)
+pub remaining-rises : (n : ℕ) (work : List ℕ) (j : ℕ) → AllPairs _<_ (remaining n work j)
 unfolding remaining
 remaining-rises n work j = select-pairwise (freeAt n work) _<_ (numbersFrom j (n - j)) (range-rises j (n - j))
 
 module _ (s : Schedule) (n kept width i next : ℕ) (work nodes : List ℕ) (few : n ≤ FFFF) (asks : 0 < toAt s i) (next-is : next ≡ dueAt s i) (w : Waiting s n kept width (Open s n (suc i) next work) nodes) where
   -- q is reached, and its slot lies in the span
-  record Fitting (q : ℕ) : Type 0 where
-    reached : Mem q (take next (s .reached))
-    from : fromAt s i ≤ slotAt s q
-    below : slotAt s q < toAt s i
+  pub record Fitting (q : ℕ) : Type 0 where
+    pub reached : Mem q (take next (s .reached))
+    pub from : fromAt s i ≤ slotAt s q
+    pub below : slotAt s q < toAt s i
 
-  fits-true : (q : ℕ) → fits s i q ≡ true → Fitting q
+  pub fits-true : (q : ℕ) → fits s i q ≡ true → Fitting q
   fits-true q e =
       let whole : (ltb 0 (toAt s i) && (elem q (take (dueAt s i) (s .reached)) && (leb (fromAt s i) (slotAt s q) && ltb (slotAt s q) (toAt s i)))) ≡ true = unfold fits in e in
       let one = and-eq-true-iff (ltb 0 (toAt s i)) (elem q (take (dueAt s i) (s .reached)) && (leb (fromAt s i) (slotAt s q) && ltb (slotAt s q) (toAt s i))) .0 whole in

@@ -54,7 +54,7 @@ module _ (n : ℕ) (work work′ : List ℕ) (j : ℕ) where
   remaining-without q same = select-twice (freeAt n work′) (freeAt n work) (λ (p : ℕ). not (eqb p q)) (numbersFrom j (n - j)) (λ p m. let r = range-mem j (n - j) m in same p (r .0) (omega (arith, r .0, r .1)))
 
 -- no place remains past the last
-remaining-end : (n : ℕ) (work : List ℕ) → remaining n work n ≡ []
+pub remaining-end : (n : ℕ) (work : List ℕ) → remaining n work n ≡ []
 unfolding remaining numbersFrom select
 remaining-end n work = let none : n - n ≡ 0 = omega arith in rw none refl
 

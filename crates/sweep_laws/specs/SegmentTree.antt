@@ -1,7 +1,7 @@
 -- The segment tree for the smallest place in a span of slots (document 01, "The shelf and its cells"): node n is the parent of nodes 2n and 2n + 1, slot s at
 -- width + s; a node holds the smallest place under it, FFFF for none. The uppermost levels, those in front of node `kept`, are left out. What a tree holds is
 -- told by the plain list of its entries.
-use Prim.Native.Nat.{ℕ, suc, _+_, _-_, _*_, _<_, _≤_, min}
+use Prim.Native.Nat.{ℕ, suc, _+_, _*_, _<_, _≤_, min}
 use mathlib.Core.Path.{_≡_}
 use mathlib.Core.Logic.{_≢_}
 use mathlib.Core.Bool.{Bool, cond, not, _&&_}
@@ -11,7 +11,7 @@ use lib.Dec.{eqb, leb, ltb}
 use Rattle.model.specs.Lists.{select, insertBy}
 use Rattle.model.specs.Tree.{FFFF}
 use Rattle.model.specs.Jobs.{jobLimit}
-use Rattle.model.specs.Visits.{levels, visits}
+use Rattle.model.specs.Visits.{levels}
 
 -- the places by slot, FFFF where a slot holds none
 unfoldable pub slots : ℕ → List ℕ → List ℕ
@@ -95,19 +95,16 @@ pub record Insertable (kept width : ℕ) (nodes : List ℕ) (slot place : ℕ) :
   pub some-place : place < FFFF
   pub vacant : Vacant slot (entriesIn width nodes)
 
--- the tree is to be searched for the slots from `from` up to `to`, which if not none lie in the shelf of `size` slots from `base` on; they hold no place smaller than `first`, and
--- none larger than `last`
-pub record Searchable (kept width : ℕ) (nodes : List ℕ) (base size from to first last : ℕ) : Type 0 where
-  pub tree : SegmentTree kept width nodes
-  pub inside : to ≤ width
+-- the slots from `from` up to `to`, if not none, lie in the shelf of `size` slots from `base` on
+pub record ShelfSpan (base size from to : ℕ) : Type 0 where
   pub few : size ≤ jobLimit
   pub begins : from < to → base ≤ from
   pub ends : to ≤ base + size
+
+-- the tree is to be searched for the slots from `from` up to `to`: they hold no place smaller than `first`, and none larger than `last`
+pub record Searchable (kept width : ℕ) (nodes : List ℕ) (from to first last : ℕ) : Type 0 where
+  pub tree : SegmentTree kept width nodes
+  pub inside : to ≤ width
   pub some-place : first < FFFF
   pub no-smaller : (e : Entry) → Mem e (entriesIn width nodes) → from ≤ e .slot → e .slot < to → first ≤ e .place
   pub no-larger : (e : Entry) → Mem e (entriesIn width nodes) → from ≤ e .slot → e .slot < to → e .place ≤ last
-
--- a search answers the smallest place in the slots from `from` up to `to`, and the nodes that document 01 counts for it in the shelf's own tree
-pub record Minimum (width : ℕ) (nodes : List ℕ) (base size from to place count : ℕ) : Type 0 where
-  pub place-is : place ≡ smallest (entriesIn width nodes) from to
-  pub visits-are : count ≡ visits (levels size) (from - base) (to - base)

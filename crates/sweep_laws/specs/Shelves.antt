@@ -11,9 +11,8 @@ use lib.Dec.{leb, ltb}
 use borrow.Author.Tests.{le-leb, lt-leb, lt-ltb, le-ltb, eq-eqb, ne-eqb}
 use Rattle.model.specs.Lists.{select, insertBy}
 use Rattle.model.specs.Tree.{FFFF}
-use Rattle.model.specs.Visits.{levels, visits}
 use Rattle.laws.specs.Booleans.{answers}
-use Rattle.sweep_laws.specs.SegmentTree.{slots, Entry, entriesFrom, entries, entriesIn, leftOf, insertEntry, removeEntry, smallest, Cleared, Inserted, Removed, Searchable, Minimum}
+use Rattle.sweep_laws.specs.SegmentTree.{slots, Entry, entriesFrom, entries, entriesIn, leftOf, insertEntry, removeEntry, smallest, Cleared, Inserted, Removed, ShelfSpan}
 use Rattle.sweep_laws.specs.EntryLaws.{inside, before, past, smallest-empty, insert-first}
 
 -- the slot lies on the shelf of `size` slots from `base` on
@@ -189,12 +188,9 @@ module _ (base size kept width : ℕ) (old new : List ℕ) where
     pub other-removed : Removed kept width old slot new → shelfIn base size width new ≡ shelfIn base size width old
     other-removed h = ap (shelfOf base size) (h .entries-are) ∙ off-remove base size slot (entriesIn width old) other
 
--- a lookup in the row answers what one in the shelf alone does, with the shelf's own W
-pub shelf-found : (kept width : ℕ) (nodes : List ℕ) (base size from to first last place count : ℕ) → Searchable kept width nodes base size from to first last → Minimum width nodes base size from to place count → (place ≡ smallest (shelfIn base size width nodes) (from - base) (to - base)) × (count ≡ visits (levels size) (from - base) (to - base))
-shelf-found kept width nodes base size from to first last place count searchable found = (
-  found .place-is ∙ elim (decLt from to) [
-    | yes some ↦ sym (shelf-smallest base size from to (entriesIn width nodes) (searchable .begins some) (searchable .ends))
-    | no none ↦ smallest-empty (entriesIn width nodes) from to (omega arith) ∙ sym (smallest-empty (shelfIn base size width nodes) (from - base) (to - base) (omega arith))
-  ],
-  found .visits-are,
-)
+-- a lookup in the row answers what one in the shelf alone does
+pub shelf-found : (width : ℕ) (nodes : List ℕ) (base size from to : ℕ) → ShelfSpan base size from to → smallest (entriesIn width nodes) from to ≡ smallest (shelfIn base size width nodes) (from - base) (to - base)
+shelf-found width nodes base size from to span = elim (decLt from to) [
+  | yes some ↦ sym (shelf-smallest base size from to (entriesIn width nodes) (span .begins some) (span .ends))
+  | no none ↦ smallest-empty (entriesIn width nodes) from to (omega arith) ∙ sym (smallest-empty (shelfIn base size width nodes) (from - base) (to - base) (omega arith))
+]

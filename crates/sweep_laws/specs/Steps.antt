@@ -21,7 +21,7 @@ use Rattle.matching.specs.Passes.{greedy-with, greedy-alone}
 use Rattle.schedule.specs.Schedule.{Schedule, places, toAt, dueAt, baseAt, sizeAt, fits, visitsAt, visitsOf, Near}
 use Rattle.schedule.specs.InWork.{slotPart, fromPart, toPart, reachedPart, duePart, matePart, openerPart, treePart, passOf}
 use Rattle.sweep_laws.specs.WorkCells.{FrontKept, front-both, front-less, front-set, treeIn, tree-set}
-use Rattle.sweep_laws.specs.Sweeping.{freeAt, remaining, ShelfAt, OnShelves, Open, Sweeping, UpTo, Made, Underway, Steppable, Asking, ShelfKnown, paired, Chosen, ReachedAt, SteppedFrom}
+use Rattle.sweep_laws.specs.Sweeping.{freeAt, remaining, ShelfAt, OnShelves, Open, Sweeping, UpTo, Made, Underway, Steppable, Asking, ShelfKnown, taken, paired, Chosen, ReachedAt, SteppedFrom}
 use Rattle.sweep_laws.specs.WaitingLaws.{waiting-as}
 use Rattle.sweep_laws.specs.Reaching.{free-kept, shelves-kept, take-place}
 use Rattle.sweep_laws.specs.Asking.{asks-free, free-alone, mate-of-one, paired-other, free-paired}
@@ -32,13 +32,13 @@ pub near-place : (s : Schedule) (n : ℕ) (gaps : List ℕ) → places s ≡ n �
 near-place s n gaps e g p h = (rw (g .gaps-length, e) h, rw (← e) (g .inside p (rw e h)))
 
 -- nothing is found where nothing passes
-find-never : (p : ℕ → Bool) (l : List ℕ) → ((x : ℕ) → p x ≡ false) → find p l ≡ none
+pub find-never : (p : ℕ → Bool) (l : List ℕ) → ((x : ℕ) → p x ≡ false) → find p l ≡ none
 unfolding find
 find-never p [] e = refl
 find-never p (x ∷ l) e = rw (e x) (find-never p l e)
 
 -- a place that asks nobody fits none
-fits-none : (s : Schedule) (p q : ℕ) → toAt s p ≡ 0 → fits s p q ≡ false
+pub fits-none : (s : Schedule) (p q : ℕ) → toAt s p ≡ 0 → fits s p q ≡ false
 unfolding fits
 fits-none s p q e = rw e refl
 
@@ -105,7 +105,7 @@ module _ (s : Schedule) (n kept width i next k v : ℕ) (work : List ℕ) (known
       }
 
 -- a place that does not wait is passed over
-sweeping-past : (s : Schedule) (n kept width i next : ℕ) (work : List ℕ) → next ≡ dueAt s i → (Open s n i next work i → ⊥) → Sweeping s n kept width i next work → Sweeping s n kept width (suc i) next work
+pub sweeping-past : (s : Schedule) (n kept width i next : ℕ) (work : List ℕ) → next ≡ dueAt s i → (Open s n i next work i → ⊥) → Sweeping s n kept width i next work → Sweeping s n kept width (suc i) next work
 sweeping-past s n kept width i next work next-is idle w =
     record {
       setting = w .setting;
@@ -299,9 +299,9 @@ module _ (s : Schedule) (n kept width i next last passes pairs visits : ℕ) (wo
             front-both n work work₁ (opened work₂) less (front-both n work₁ work₂ (opened work₂) chosen (front-set n work₂ (openerPart * n + passes) i (omega arith)))
           where
             paired-order : FrontKept n work₁ (paired n i q work₁)
-            paired-order = front-both n work₁ (set (set work₁ (matePart * n + i) q) (matePart * n + q) i) (paired n i q work₁)
-                (front-both n work₁ (set work₁ (matePart * n + i) q) (set (set work₁ (matePart * n + i) q) (matePart * n + q) i) (front-set n work₁ (matePart * n + i) q (omega arith)) (front-set n (set work₁ (matePart * n + i) q) (matePart * n + q) i (omega arith)))
-                (front-set n (set (set work₁ (matePart * n + i) q) (matePart * n + q) i) (toPart * n + q) 0 (omega arith))
+            paired-order = front-both n work₁ (taken n i q work₁) (paired n i q work₁)
+                (front-both n work₁ (set work₁ (matePart * n + q) i) (taken n i q work₁) (front-set n work₁ (matePart * n + q) i (omega arith)) (front-set n (set work₁ (matePart * n + q) i) (toPart * n + q) 0 (omega arith)))
+                (front-set n (taken n i q work₁) (matePart * n + i) q (omega arith))
 
 -- ---- the whole step, as the code takes it
 

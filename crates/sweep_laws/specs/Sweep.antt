@@ -47,7 +47,7 @@ module _ (n : ℕ) (starts gaps : List ℕ) (kept width : ℕ) (work work₁ : L
   abbrev s : Schedule
   s = scheduleIn n starts work
 
-  places-are : places s ≡ n
+  pub places-are : places s ≡ n
   unfolding scheduleIn
   places-are = length-take-le n (drop (slotPart * n) work) (rw (length-drop (slotPart * n) work) (omega (arith, b .room)))
 
@@ -89,7 +89,7 @@ module _ (n : ℕ) (starts gaps : List ℕ) (kept width : ℕ) (work work₁ : L
         unmated-free n work₁ p alone
   ]
 
-  all-remain : remaining n work₁ 0 ≡ numbers (places s)
+  pub all-remain : remaining n work₁ 0 ≡ numbers (places s)
   unfolding remaining numbers
   all-remain = rw (sub-zero n, places-are) (select-all (freeAt n work₁) (numbersFrom 0 n) (mem-all (λ (p : ℕ). freeAt n work₁ p ≡ true) (numbersFrom 0 n) (λ p m. all-free p (omega (arith, range-mem 0 n m .1)))))
 
@@ -191,7 +191,7 @@ module _ (n : ℕ) (starts gaps : List ℕ) (kept width : ℕ) (work : List ℕ)
     abbrev cleared : List ℕ
     cleared = putMid (treePart * n) (length work - treePart * n) work nodes
 
-    tree-cleared : TreeChanged n kept width [] work cleared
+    pub tree-cleared : TreeChanged n kept width [] work cleared
     tree-cleared = tree-back n kept width (λ (l : List ℕ). []) work nodes parts-room same h
 
     shelves-cleared : OnShelves (scheduleIn n starts work) n starts gaps cleared

@@ -15,8 +15,8 @@ use Rattle.model.specs.Visits.{levels}
 use Rattle.model.specs.Planning.{pairCount}
 use Rattle.schedule.specs.Schedule.{Schedule, places, slotAt, fromAt, toAt, dueAt, baseAt, sizeAt, fits, passesByPlace, visitsAt, visitsOf, Near, Sound}
 use Rattle.schedule.specs.InWork.{slotPart, fromPart, toPart, reachedPart, duePart, matePart, openerPart, treePart, baseIn, sizeIn, Shelved, scheduleIn, passAt}
-use Rattle.sweep_laws.specs.SegmentTree.{Entry, entriesIn, SegmentTree, Insertable, Searchable, Minimum}
-use Rattle.sweep_laws.specs.WorkCells.{FrontKept, treeIn}
+use Rattle.sweep_laws.specs.SegmentTree.{Entry, entriesIn, removeEntry, SegmentTree, Insertable, Searchable, smallest}
+use Rattle.sweep_laws.specs.WorkCells.{FrontKept, treeIn, TreeChanged}
 
 -- what a sweep of n places asks of the shelves, the gaps and the work cells
 pub record Sweepable (n : ℕ) (starts gaps work : List ℕ) : Type 0 where
@@ -142,17 +142,40 @@ pub record Asking (s : Schedule) (n kept width base size i first last next to : 
   pub to-is : to ≡ getD work (toPart * n + i) 0
   pub asks : 0 < to
 
--- the cells with place i and its mate q paired
-abbrev pub paired : ℕ → ℕ → ℕ → List ℕ → List ℕ
-paired n i q work = set (set (set work (matePart * n + i) q) (matePart * n + q) i) (toPart * n + q) 0
+-- the same of a place that waits no longer: none that waits in its span comes before `first`
+pub record Turn (s : Schedule) (n kept width base size i first last next to : ℕ) (work : List ℕ) : Type 0 where
+  pub sweeping : Sweeping s n kept width (suc i) next work
+  pub inside : i < n
+  pub base-is : base ≡ baseAt s i
+  pub size-is : size ≡ sizeAt s i
+  pub from-cell : getD work (fromPart * n + i) 0 ≡ fromAt s i
+  pub to-is : to ≡ toAt s i
+  pub asks : 0 < to
+  pub first-bounded : first ≤ n
+  pub none-before : (q : ℕ) → q < n → Open s n (suc i) next work q → fromAt s i ≤ slotAt s q → slotAt s q < toAt s i → first ≤ q
+  pub up-to : UpTo s n next last
+  pub next-is : next ≡ dueAt s i
 
--- place q is the mate of place i
-pub record Mate (s : Schedule) (n i q : ℕ) (old new : List ℕ) : Type 0 where
+-- the cells with place q taken by place i: it asks nobody any more
+abbrev pub taken : ℕ → ℕ → ℕ → List ℕ → List ℕ
+taken n i q work = set (set work (matePart * n + q) i) (toPart * n + q) 0
+
+-- and with the two paired
+abbrev pub paired : ℕ → ℕ → ℕ → List ℕ → List ℕ
+paired n i q work = set (taken n i q work) (matePart * n + i) q
+
+-- place q is the first that place i can take, and the front of the cells is as told
+pub record Mate (s : Schedule) (n i q : ℕ) (old told new : List ℕ) : Type 0 where
   pub inside : q < n
   pub later : i < q
   pub free : freeAt n old q ≡ true
   pub first : find (fits s i) (remaining n old (suc i)) ≡ some q
-  pub front : FrontKept (treePart * n) (paired n i q old) new
+  pub front : FrontKept (treePart * n) told new
+
+-- place i takes the greedy rule's choice, FFFF for none; it can take another then
+pub record Taking (s : Schedule) (n kept width base size i last next to : ℕ) (old : List ℕ) (q : ℕ) (new : List ℕ) : Type 0 where
+  pub none-found : q ≡ FFFF → (find (fits s i) (remaining n old (suc i)) ≡ none) × (new ≡ old)
+  pub one-found : (q ≡ FFFF → ⊥) → Mate s n i q old (taken n i q old) new × Turn s n kept width base size i (q + 1) last next to new
 
 -- place i has none
 pub record NoMate (s : Schedule) (n i : ℕ) (old new : List ℕ) : Type 0 where
@@ -165,7 +188,7 @@ pub record Chosen (s : Schedule) (n kept width i next : ℕ) (old : List ℕ) (q
   pub visits-are : visits ≡ visitsAt s i
   pub few-visits : visits ≤ 49
   pub none-found : q ≡ FFFF → NoMate s n i old new
-  pub one-found : (q ≡ FFFF → ⊥) → Mate s n i q old new
+  pub one-found : (q ≡ FFFF → ⊥) → Mate s n i q old (paired n i q old) new
 
 -- a place that is to come into the tree
 pub record PlaceInsertable (n kept width p : ℕ) (work : List ℕ) : Type 0 where
@@ -180,16 +203,27 @@ pub record PlaceRemovable (n kept width p : ℕ) (work : List ℕ) : Type 0 wher
   pub tree : SegmentTree kept width (treeIn n work)
   pub slot-inside : getD work (slotPart * n + p) 0 < width
 
+-- a mate that is found can be taken
+pub record MateTakable (n kept width q : ℕ) (work : List ℕ) : Type 0 where
+  pub room : treePart * n ≤ length work
+  pub inside : (q ≡ FFFF → ⊥) → q < n
+  pub removable : (q ≡ FFFF → ⊥) → PlaceRemovable n kept width q work
+
+-- place i has taken it, if one was found: it has left the tree, and has place i as its mate
+pub record MateTaken (n kept width i q : ℕ) (old new : List ℕ) : Type 0 where
+  pub none : q ≡ FFFF → new ≡ old
+  pub one : (q ≡ FFFF → ⊥) → (between : List ℕ) × TreeChanged n kept width (removeEntry (getD old (slotPart * n + q) 0) (entriesIn width (treeIn n old))) old between × (new ≡ taken n i q between)
+
 -- a place whose mate is to be found: none that waits in the span comes before `first` or after `last`, and each waits in its own slot. The first may
 -- come after all places: then it comes after the last
-pub record MateSearchable (n kept width base size p first last to : ℕ) (work : List ℕ) : Type 0 where
+pub record MateSearchable (n kept width p first last to : ℕ) (work : List ℕ) : Type 0 where
   pub few : n ≤ jobLimit
   pub inside : p < n
   pub first-bounded : first ≤ n + 1
   pub last-inside : last ≤ n
   pub room : treePart * n ≤ length work
   pub own-slot : (e : Entry) → Mem e (entriesIn width (treeIn n work)) → e .slot ≡ getD work (slotPart * n + e .place) 0
-  pub search : Searchable kept width (treeIn n work) base size (getD work (fromPart * n + p) 0) to first last
+  pub search : Searchable kept width (treeIn n work) (getD work (fromPart * n + p) 0) to first last
 
 -- place p does not wait in the slots from `from` up to `to`
 abbrev pub PassedBy : ℕ → ℕ → ℕ → ℕ → ℕ → List ℕ → Type 0
@@ -197,14 +231,8 @@ PassedBy n width from to p work =
     from ≤ getD work (slotPart * n + p) 0 → getD work (slotPart * n + p) 0 < to → getD work (treePart * n + width + getD work (slotPart * n + p) 0) 0 ≢ p
 
 -- the mate that is found
-abbrev pub MateFound : ℕ → ℕ → ℕ → ℕ → ℕ → ℕ → List ℕ → ℕ → ℕ → Type 0
-MateFound n width base size p to work q visits = Minimum width (treeIn n work) base size (getD work (fromPart * n + p) 0) to q visits
-
--- two places that are to be paired
-pub record Pairable (n i q : ℕ) (work : List ℕ) : Type 0 where
-  pub one-inside : i < n
-  pub other-inside : q < n
-  pub room : treePart * n ≤ length work
+abbrev pub MateFound : ℕ → ℕ → ℕ → ℕ → List ℕ → ℕ → Type 0
+MateFound n width p to work q = q ≡ smallest (entriesIn width (treeIn n work)) (getD work (fromPart * n + p) 0) to
 
 -- what is due at place i is reached, `due` in all
 pub record ReachedAt (n kept width i next last : ℕ) (old : List ℕ) (due last′ : ℕ) (new : List ℕ) : Type 0 where

@@ -7,13 +7,19 @@
 //! printing, and zeros over the rest of the output. Input and output are lent, the same to all calls
 //! on a table. Nothing is cleared between two calls, neither the output nor a cache.
 //!
-//! It prints and judges no time, but stops if the three do not write the same.
+//! The second whole run, for a press with more lanes, is timed in turns with the first one on full tables in
+//! which a full grouping was planted.
+//!
+//! It prints and judges no time, but stops if the three do not write the same, or the second run not what
+//! the reference writes.
 
 use std::time::{Duration, Instant};
 use tests::made::mixtures::{lines_mixed, Kind};
+use tests::made::planted::{planted, Planting};
 use tests::made::tables::{table_of_shape, Reach, Shape, Size};
 use tests::made::windows::{spread, Spread};
 use tests::made::Generator;
+use tests::reference::table::table_lines;
 use tests::reference::{Table, JOB_LIMIT, LAYOUT_LIMIT, OUTPUT_BYTES, WINDOW_LIMIT};
 use tests::{by_hand, library, reference};
 
@@ -31,6 +37,9 @@ const SHAPES: [Shape; 5] = [
 ];
 
 const JOBS: [usize; 3] = [64, 512, JOB_LIMIT];
+
+/// The presses that the second run is timed for.
+const LANES: [usize; 3] = [2, 3, 8];
 
 /// How many windows the jobs of full tables are in, beside one.
 const WINDOWS: [usize; 2] = [4, WINDOW_LIMIT];
@@ -95,6 +104,7 @@ fn main() {
         let windows = by_windows.each_ref().map(|times| times[at].proved);
         print_windows(shape, jobs[2], windows);
     }
+    second_runs();
 }
 
 fn full_tree(jobs: usize) -> Size {
@@ -123,6 +133,68 @@ fn row(name: &str, table: &Table, layouts: Layouts) -> Times {
     let times = times(&input, &mut vec![0; OUTPUT_BYTES]);
     print_row(name, table, layouts, &times);
     times
+}
+
+/// The rows of the second run: full tables of each shape for each press, in one window and in all.
+fn second_runs() {
+    println!("the second run: times in µs; ratio: second / first");
+    println!(
+        "{:8} {:>5} {:>6} {:>8} {:>9} {:>9} {:>7}",
+        "tree", "lanes", "jobs", "windows", "first", "second", "s / f"
+    );
+    for windows in [1, WINDOW_LIMIT] {
+        for lanes in LANES {
+            SHAPES
+                .into_iter()
+                .for_each(|shape| second_row(shape, lanes, windows));
+        }
+    }
+}
+
+fn second_row(shape: Shape, lanes: usize, windows: usize) {
+    let planting = Planting::full(shape, lanes, Spread::First(windows));
+    let table = planted(planting, &mut Generator::new(1));
+    let input = table_lines(&table).concat();
+    stop_unless_grouped(&input, lanes);
+    let [first, second] = times_in_turns(&input, lanes);
+    println!(
+        "{:8} {lanes:>5} {:>6} {:>8} {:>9.1} {:>9.1} {:>7.2}",
+        format!("{shape:?}"),
+        table.jobs(),
+        table.windows_used().len(),
+        microseconds(first),
+        microseconds(second),
+        second.div_duration_f64(first),
+    );
+}
+
+/// The least time of the first run, and of the second.
+fn times_in_turns(input: &[u8], lanes: usize) -> [Duration; 2] {
+    let output = &mut vec![0; OUTPUT_BYTES];
+    let mut least = [Duration::MAX; 2];
+    for _ in 0..ROUNDS * CALLS {
+        lower_once(&mut least[0], || library::run(input, output));
+        lower_once(&mut least[1], || library::group(input, output, lanes));
+    }
+    least
+}
+
+fn lower_once(least: &mut Duration, run: impl FnOnce() -> usize) {
+    let start = Instant::now();
+    run();
+    *least = start.elapsed().min(*least);
+}
+
+/// Times are taken only where the second run writes groups, and those of the reference.
+fn stop_unless_grouped(input: &[u8], lanes: usize) {
+    let (mut found, mut expected) = (vec![1; OUTPUT_BYTES], vec![2; OUTPUT_BYTES]);
+    let length = library::group(input, &mut found, lanes);
+    let expected_length = reference::groups::run_into(input, &mut expected, lanes);
+    assert!(found.starts_with(b"13"), "no groups");
+    assert!(
+        (length, found) == (expected_length, expected),
+        "reference differs"
+    );
 }
 
 /// The kinds of the lines, as long as both are left.

@@ -1,6 +1,6 @@
 //! What a machine can see of the documents: that RULES has every definition and every definitions file
-//! its section, that links and must-fail edits named are there, and that the man page's example is
-//! the stored one. It is run from the top of the repository.
+//! its section, that links and must-fail edits named are there, and that the man pages' examples are
+//! the stored ones. It is run from the top of the repository.
 
 use std::collections::BTreeSet;
 use std::fs;
@@ -42,9 +42,12 @@ fn main() -> ExitCode {
     report.listed("gone edits of the change notes", &gone, |edit| {
         same(&format!("{edit:?}"), edits().contains(edit), false)
     });
-    report.listed("the man page's examples", man_page_examples(), |lines| {
-        holds(&text("docs/plan.1"), "the man page", &lines)
-    });
+    for (page, files) in MAN_PAGES {
+        report.listed(&format!("examples of {page}"), files, |file| {
+            let lines = format!(".Bd -literal -offset indent\n{}.Ed\n", text(file));
+            holds(&text(page), page, &lines)
+        });
+    }
     report.finish()
 }
 
@@ -187,18 +190,27 @@ fn edits_of_notes() -> (Edits, Edits) {
     )
 }
 
-/// The lines of the examples that the man page shows.
-fn man_page_examples() -> [String; 9] {
-    [
-        "examples/bakehouse.table",
-        "examples/bakehouse.plan",
-        "examples/both-ends.table",
-        "examples/both-ends.plan",
-        "examples/added-layout.table",
-        "examples/added-layout.plan",
-        "examples/exchanged.plan",
-        "examples/windows.table",
-        "examples/windows.plan",
-    ]
-    .map(|path| format!(".Bd -literal -offset indent\n{}.Ed\n", text(path)))
-}
+/// The examples whose lines a man page shows.
+const MAN_PAGES: [(&str, &[&str]); 2] = [
+    (
+        "docs/plan.1",
+        &[
+            "examples/bakehouse.table",
+            "examples/bakehouse.plan",
+            "examples/both-ends.table",
+            "examples/both-ends.plan",
+            "examples/added-layout.table",
+            "examples/added-layout.plan",
+            "examples/exchanged.plan",
+            "examples/windows.table",
+            "examples/windows.plan",
+        ],
+    ),
+    (
+        "docs/group.1",
+        &[
+            "examples/three-across.table",
+            "examples/three-across.groups-3",
+        ],
+    ),
+];

@@ -115,17 +115,19 @@ const fn stored(file: &'static str, table: &'static str, shown: Shown) -> Stored
     Stored { file, table, shown }
 }
 
-const STORED: [Stored; 16] = [
+const STORED: [Stored; 18] = [
     stored("examples/added-layout", "added-layout", Shown::Product),
     stored("examples/bakehouse", "bakehouse", Shown::Product),
     stored("examples/bakehouse-cut-3", "bakehouse", Shown::Cut(3)),
     stored("examples/bare-sheet", "bare-sheet", Shown::Product),
     stored("examples/both-ends", "both-ends", Shown::Product),
+    stored("examples/chain-of-seven", "chain-of-seven", Shown::Product),
     stored("examples/earlier-job", "earlier-job", Shown::Product),
     stored("examples/exchanged", "exchanged", Shown::Product),
     stored("examples/first-partner", "first-partner", Shown::Product),
     stored("examples/no-jobs", "no-jobs", Shown::Product),
     stored("examples/solo", "solo", Shown::Product),
+    stored("examples/three-across", "three-across", Shown::Product),
     stored("examples/two-branches", "two-branches", Shown::Product),
     stored("examples/two-jobs", "two-jobs", Shown::Product),
     stored("examples/windows", "windows", Shown::Product),

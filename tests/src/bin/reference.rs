@@ -1,6 +1,7 @@
 //! The second implementation against document 01's words and tables worked by hand, so that what the
-//! other programs compare with is itself checked; the checks of *Plan* against wrong planners; and
-//! the whole run by hand beside the second implementation.
+//! other programs compare with is itself checked; the checks of *Plan* against wrong planners, and those
+//! of the second whole run against wrong groupers; and the whole run by hand beside the second
+//! implementation.
 
 use std::fs;
 use std::path::PathBuf;
@@ -17,15 +18,17 @@ use tests::examples::{
     STRETCHES,
 };
 use tests::forbidden::Search;
+use tests::group_checks;
 use tests::made::mixtures::any_lines;
 use tests::made::tables::{table, table_for_search, table_of_size, table_with_rivals, Size};
 use tests::made::windows::{any_spread, spread_solo_jobs};
 use tests::made::Generator;
 use tests::plan_checks::{check_example, small_tables, small_windows, Planner};
+use tests::reference::groups;
 use tests::reference::paths::{depth_of_highest, highest, is_bare, own_paths, BARE_SHEET};
 use tests::reference::plan::{plan, plan_of, running_order, Plan, Results, Room, Totals};
 use tests::reference::rivals::{keeps_rules, most_before_cuts, pairs_before_cuts, pairs_of};
-use tests::reference::run::run;
+use tests::reference::run::{run, run_into};
 use tests::reference::shelf::{Answer, Shelf};
 use tests::reference::stretch::shared_stretch;
 use tests::reference::sweep::{plan_of_turns, turns, Event, Turn, Verdict};
@@ -36,6 +39,7 @@ use tests::reference::{Refusal, Table, ABSENT, WINDOW_LIMIT, WORK_CELLS};
 use tests::report::{same, Outcome, Report};
 use tests::run_checks;
 use tests::windows_apart;
+use tests::wrong_groupers::{wrong_groupers, WRONG_CALLS};
 use tests::wrong_planners::{wrong_planners, WrongPlanner};
 
 fn main() -> ExitCode {
@@ -51,6 +55,7 @@ fn main() -> ExitCode {
         check_example(&reference_planner, &example)
     });
     report.listed("example tables", EXAMPLE_FILES, planned_as_stored);
+    report.listed("groups of example tables", GROUPED_FILES, grouped_as_stored);
     report.listed("document 01's refusals", READINGS, |(bytes, refusal)| {
         same("refusal", read(bytes).err(), refusal)
     });
@@ -135,6 +140,16 @@ fn main() -> ExitCode {
     report.listed("the search for pairs of two windows", [()], |()| {
         search_finds_windows()
     });
+    group_checks::by_hand(&mut report, &groups::run_into);
+    group_checks::beside_search(&mut report, &groups::run_into);
+    group_checks::beside_first(&mut report, &groups::run_into, &run_into);
+    report.listed("wrong groupers", wrong_groupers(), |grouper| {
+        group_checks::caught(&grouper)
+    });
+    report.listed("wrong calls", WRONG_CALLS, |(name, call)| {
+        group_checks::called_rightly(&groups::run_into)?;
+        same(name, group_checks::called_rightly(&call).is_err(), true)
+    });
     // The whole run that the benchmark measures against.
     run_checks::run(&mut report, &by_hand::run_into);
     report.finish()
@@ -179,28 +194,41 @@ fn bakehouse_as_printed() -> Outcome {
 }
 
 /// The tables in `examples`, with their plans beside them.
-const EXAMPLE_FILES: [&str; 12] = [
+const EXAMPLE_FILES: [&str; 14] = [
     "added-layout",
     "bakehouse",
     "bare-sheet",
     "both-ends",
+    "chain-of-seven",
     "earlier-job",
     "exchanged",
     "first-partner",
     "no-jobs",
     "solo",
+    "three-across",
     "two-branches",
     "two-jobs",
     "windows",
 ];
 
+/// Those with their groups beside them, for so many lanes.
+const GROUPED_FILES: [(&str, usize); 2] = [("chain-of-seven", 3), ("three-across", 3)];
+
 fn planned_as_stored(name: &str) -> Outcome {
+    let table = example_file(name, "table")?;
+    same(name, run(&table), example_file(name, "plan")?)
+}
+
+fn grouped_as_stored((name, lanes): (&str, usize)) -> Outcome {
+    let table = example_file(name, "table")?;
+    let stored = example_file(name, &format!("groups-{lanes}"))?;
+    same(name, groups::run(&table, lanes), stored)
+}
+
+fn example_file(name: &str, ending: &str) -> Result<Vec<u8>, String> {
     let folder = PathBuf::from(env!("CARGO_MANIFEST_DIR")).join("../examples");
-    let file = |ending: &str| {
-        let path = folder.join(name).with_extension(ending);
-        fs::read(path).map_err(|error| format!("{name}.{ending}: {error}"))
-    };
-    same(name, run(&file("table")?), file("plan")?)
+    let path = folder.join(name).with_extension(ending);
+    fs::read(path).map_err(|error| format!("{name}.{ending}: {error}"))
 }
 
 fn read_as_said(bytes: &[u8], said: &Said) -> Outcome {

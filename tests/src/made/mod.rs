@@ -4,6 +4,8 @@ pub mod borders;
 pub mod damage;
 pub mod faults;
 pub mod mixtures;
+pub mod planted;
+pub mod small;
 pub mod tables;
 pub mod windows;
 

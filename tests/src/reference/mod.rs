@@ -1,10 +1,12 @@
 //! A second implementation of the planner, written from document 01's definitions, as document 02's
 //! requests have changed them (2026-01, the bare sheet; 2026-02, both ends of what they share;
-//! 2026-04, layouts after jobs; 2026-05, printing windows), and compared with the proved one. It is
-//! slow on purpose: nothing that it plans with uses a sweep, a segment tree, or Theorem 6. The module
-//! `sweep` tells the sweep's turns, with a shelf for each window, and its plan is compared with the
-//! other.
+//! 2026-04, layouts after jobs; 2026-05, printing windows; 2026-07, rolls three and more across), and
+//! compared with the proved one. It is slow on purpose: nothing that it plans with uses a sweep, a
+//! segment tree, or Theorem 6. The module `sweep` tells the sweep's turns, with a shelf for each window,
+//! and its plan is compared with the other.
 
+pub mod full_groupings;
+pub mod groups;
 pub mod paths;
 pub mod plan;
 pub mod rivals;

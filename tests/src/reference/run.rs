@@ -7,10 +7,15 @@ use super::{Refusal, Table, ABSENT, OUTPUT_BYTES};
 
 /// The whole run into lent output: the length, and what the output holds afterwards.
 pub fn run_into(input: &[u8], output: &mut [u8]) -> usize {
+    write_into(output, || run(input))
+}
+
+/// What either whole run leaves in lent output: its lines and zeros, or in too short a one nothing.
+pub fn write_into(output: &mut [u8], lines: impl FnOnce() -> Vec<u8>) -> usize {
     if output.len() < OUTPUT_BYTES {
         return 0;
     }
-    let written = run(input);
+    let written = lines();
     output.fill(0);
     output[..written.len()].copy_from_slice(&written);
     written.len()
@@ -25,7 +30,7 @@ pub fn run(input: &[u8]) -> Vec<u8> {
 }
 
 /// 1E, the number in two digits, the place in four.
-fn refusal_line(refusal: Refusal) -> String {
+pub fn refusal_line(refusal: Refusal) -> String {
     format!("1E{:02X}{:04X}\n", refusal.number, refusal.place)
 }
 

@@ -1,7 +1,7 @@
 use mathlib.Core.Path.{sym}
 use lib.Seq.{length-take-le}
 use borrow.Author.Needs.{needs}
-use Rattle.plan.specs.Within.{run-within}
+use Rattle.run.specs.Within.{run-within}
 use Rattle.plan.proofs.main.Statement.{statement}
 use Rattle.plan.proofs.main.Tie as tie
 
@@ -17,20 +17,20 @@ read-full-requires c κs = search needs
 array-share-prefix-table : tie.Need-array-share-prefix-table
 array-share-prefix-table c = search needs
 
-slice-aggregate-murdzeki-plan : tie.Need-slice-aggregate-murdzeki-plan
-slice-aggregate-murdzeki-plan c = search needs
+slice-aggregate-whole-run : tie.Need-slice-aggregate-whole-run
+slice-aggregate-whole-run c = search needs
 
-slice-aggregate-murdzeki-plan-2 : tie.Need-slice-aggregate-murdzeki-plan-2
-slice-aggregate-murdzeki-plan-2 c = search needs
+slice-aggregate-whole-run-2 : tie.Need-slice-aggregate-whole-run-2
+slice-aggregate-whole-run-2 c = search needs
 
-murdzeki-plan-requires : tie.Need-murdzeki-plan-requires
-murdzeki-plan-requires c κs = search needs
+whole-run-requires : tie.Need-whole-run-requires
+whole-run-requires c κs = search needs
 
 array-share-prefix-plan : tie.Need-array-share-prefix-plan
-array-share-prefix-plan c = run-within _ _ _ _ (c .before .murdzeki-plan .ensures)
+array-share-prefix-plan c = run-within _ _ _ _ (c .before .whole-run .ensures)
 
 slice-aggregate-write-all : tie.Need-slice-aggregate-write-all
-slice-aggregate-write-all c = sym (length-take-le _ _ (run-within _ _ _ _ (c .before .before .murdzeki-plan .ensures)))
+slice-aggregate-write-all c = sym (length-take-le _ _ (run-within _ _ _ _ (c .before .before .whole-run .ensures)))
 
 write-all-requires : tie.Need-write-all-requires
 write-all-requires c κs = search needs
@@ -46,9 +46,9 @@ main-spec =
     slice-aggregate-read-full
     read-full-requires
     array-share-prefix-table
-    slice-aggregate-murdzeki-plan
-    slice-aggregate-murdzeki-plan-2
-    murdzeki-plan-requires
+    slice-aggregate-whole-run
+    slice-aggregate-whole-run-2
+    whole-run-requires
     array-share-prefix-plan
     slice-aggregate-write-all
     write-all-requires

@@ -21,7 +21,7 @@ slice-aggregate-run-in-5 : tie.Need-slice-aggregate-run-in-5
 slice-aggregate-run-in-5 c = search needs
 
 run-in-requires : tie.Need-run-in-requires
-run-in-requires c κs = (c .before .before .before .before .before .before .before .before .pre, arrays (c .before .before .before .before .before .before .before .before .args .input .now) 12 (λ m h k. omega arith))
+run-in-requires c κs = let p = c .before .before .before .before .before .before .before .before .pre in (p .0, (arrays (c .before .before .before .before .before .before .before .before .args .input .now) 12 (λ m h k. omega arith), p .1))
 
 same-length : tie.Need-same-length
 same-length c = search needs

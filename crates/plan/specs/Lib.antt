@@ -1,2 +1,0 @@
--- What the program needs to know of the whole run.
-pub mod Within
