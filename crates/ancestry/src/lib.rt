@@ -1,6 +1,8 @@
 // The lowest common ancestor of two layouts, by range minimum. It is the smallest of the two and of the parents of the layouts whose first leaf lies after
 // that of the left one, up to that of the right one: an ancestor has a smaller number than what stands below it. Minima of these parents stand in a
 // sparse table.
+#![tactic(auto)]
+
 ghost use Rattle.std.specs.Prelude.{◌≡◌, List, ℕ, ◌+◌, ◌-◌, ◌<◌, ◌≤◌, min, length, replicate};
 ghost use Rattle.model.specs.Tree.{FFFF};
 ghost use Rattle.laws.specs.Least.{least_of};

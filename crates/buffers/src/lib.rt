@@ -1,4 +1,6 @@
 // What many parts do with cells and numbers: a cell as an index, cells filled with one number, the lesser and the larger of two numbers.
+#![tactic(auto)]
+
 ghost use Rattle.std.specs.Prelude.{◌≡◌, min, max, length, replicate};
 
 // A cell as an index: as a call, so that a cast of a cell that is read asks for no proof that it fits.

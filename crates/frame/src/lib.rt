@@ -1,5 +1,7 @@
 // One line of a table, to its frame (document 01, "The table", as 2026-05 changed it). A frame's line is 6, 10 or 12 digits and byte 0A,
 // so its bytes stand at fixed positions, and nothing is searched for.
+#![tactic(auto)]
+
 ghost use Rattle.std.specs.Prelude.{true, false, ◌≡◌, ◌+◌, ◌<◌, ◌≤◌, length, drop};
 ghost use Rattle.model.specs.Table.{first_line, frame_of};
 ghost use Rattle.model.specs.Answers.{frame_answer, line_answer};

@@ -1,4 +1,6 @@
 // By place, how far ahead the next place of the same window is, in the cells of the marks.
+#![tactic(auto)]
+
 ghost use Rattle.std.specs.Prelude.{ℕ, List, length};
 ghost use Rattle.gaps.specs.Gaps.{WindowsKnown, GapTo, GapsSet};
 

@@ -1,5 +1,7 @@
 // The program for a press with more lanes: reads a table from standard input, at most 65,536 bytes of it, and writes its groups to standard output. Its one argument is
 // the number of lanes.
+#![tactic(auto)]
+
 use libc::{STDIN_FILENO, STDOUT_FILENO};
 use model::LaneCount;
 

@@ -12,7 +12,7 @@ use Rattle.model.specs.Lists.{elem, numbers, All}
 use Rattle.model.specs.Jobs.{Table, jobs, bottom, path}
 use Rattle.model.specs.Grouping.{Group, all_full, groups_of, deepest_common}
 use Rattle.model.specs.Output.{hex, line, group_line, group_count_line, group_bytes, output_bytes}
-use Rattle.laws.specs.Lists.{all_mem, at_all, mem_all, all_imply, get_d_mem, flat_agree, flat_map, flat_more}
+use Rattle.laws.specs.Lists.{all_mem, at_all, mem_all, all_imply, get_d_mem, flat_agree, flat_map_map, flat_more}
 use Rattle.laws.specs.Numbers.{numbers_mem, numbers_distinct, numbers_length}
 use Rattle.laws.specs.Counting.{count_length_all}
 use Rattle.tree_laws.specs.Sharing.{Downward, On, own_on}
@@ -145,7 +145,7 @@ module _ (tb : Table) (g : ℕ) (ps tree members bottoms work : List ℕ) (count
 
     -- its digits and its bottoms are those of its jobs
     digits_are : job_digits work group ≡ flat_map (hex 4) (map (job_at tb) group)
-    digits_are = flat_agree (λ (q : ℕ). hex 4 (job_in work q)) (λ (q : ℕ). hex 4 (job_at tb q)) group (λ q m. ap (hex 4) (job_is q (all_mem (λ (q : ℕ). q < jobs tb) places_known m))) ∙ sym (flat_map (hex 4) (job_at tb) group)
+    digits_are = flat_agree (λ (q : ℕ). hex 4 (job_in work q)) (λ (q : ℕ). hex 4 (job_at tb q)) group (λ q m. ap (hex 4) (job_is q (all_mem (λ (q : ℕ). q < jobs tb) places_known m))) ∙ sym (flat_map_map (hex 4) (job_at tb) group)
 
     bottoms_are : map (bottom_at bottoms work) group ≡ map (bottom tb) (map (job_at tb) group)
     bottoms_are = map_agree group places_known

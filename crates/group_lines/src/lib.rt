@@ -1,4 +1,6 @@
 // A grouping as lines: a line for each group, by its first job, and their number (document 02, 2026-07).
+#![tactic(auto)]
+
 ghost use Rattle.std.specs.Prelude.{◌≡◌, List, ℕ, ◌+◌, ◌*◌, ◌≤◌, length};
 ghost use Rattle.model.specs.Jobs.{Table};
 ghost use Rattle.model.specs.Output.{group_bytes, output_bytes};

@@ -1,5 +1,7 @@
 // The sweep for a press with more lanes (000, Algorithm 3): each place still free at its turn takes the first places that wait in the span that it asks for, one for each
 // other lane.
+#![tactic(auto)]
+
 ghost use Rattle.std.specs.Prelude.{◌≡◌, ℕ, ◌+◌};
 ghost use Rattle.schedule.specs.Schedule.{Schedule};
 ghost use Rattle.group_sweep.specs.Grouped.{Groupable, GroupSwept, GroupAsking, GroupTaken, GroupSteppable, GroupStepped};

@@ -1,4 +1,6 @@
 // The groups of a table for a press with more lanes (document 02, 2026-07): made by place, from a table to its schedule and by a sweep over it.
+#![tactic(auto)]
+
 ghost use Rattle.std.specs.Prelude.{◌≤◌, length};
 ghost use Rattle.model.specs.Jobs.{table_of};
 ghost use Rattle.model.specs.Grouping.{least_lanes, most_lanes};

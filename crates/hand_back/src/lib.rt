@@ -1,4 +1,6 @@
 // Hands a plan back by job number: at its own number each job finds its partner and the highest and the deepest layout that they share, FFFF for none.
+#![tactic(auto)]
+
 ghost use Rattle.std.specs.Prelude.{◌≡◌, ◌<◌, length, set};
 ghost use Rattle.model.specs.Tree.{FFFF};
 ghost use Rattle.model.specs.Jobs.{Table};

@@ -6,7 +6,7 @@ use Rattle.model.specs.declared.Refusal.{Refusal}
 use Rattle.model.specs.declared.Settled.{Settled}
 use Rattle.model.specs.declared.Settled.TheVariants as settled
 use Rattle.model.specs.declared.TableRead.{TableRead}
-use Rattle.model.specs.declared.TableRead.TheVariants as table-read
+use Rattle.model.specs.declared.TableRead.TheVariants as table_read
 use Rattle.model.specs.declared.Planned.{Planned}
 use Rattle.model.specs.declared.Planned.TheVariants as planned
 
@@ -21,8 +21,8 @@ packed_settled (settled.Refused r) = packed_refusal r
 
 -- layouts × 65536 + jobs, or 2^32 times the refusal
 abbrev pub packed_read : TableRead → ℕ
-packed_read (table-read.Read c) = c.layouts * 65536 + c.jobs
-packed_read (table-read.Refused r) = packed_refusal r * 4294967296
+packed_read (table_read.Read c) = c.layouts * 65536 + c.jobs
+packed_read (table_read.Refused r) = packed_refusal r * 4294967296
 
 -- *Settle layouts*, its answer packed
 pub record PackedSettle (parents depths firsts lasts : List ℕ) (packed : ℕ) (depths' firsts' lasts' : List ℕ) : Type 0 where

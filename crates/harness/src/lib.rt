@@ -1,5 +1,7 @@
 // A test aid, no part of the product: the public operations under plain C names, so that the programs in tests/ can call them. Each
 // answer is packed into one number. No function here asks anything of its caller.
+#![tactic(auto)]
+
 ghost use Rattle.std.specs.Prelude.{◌≡◌};
 ghost use Rattle.harness.specs.Packed.{packed_refusal, packed_settled, packed_read, PackedSettle, PackedTable, copied, CopiedStretch, packed_planned, PackedPlan};
 

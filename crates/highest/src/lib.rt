@@ -1,4 +1,6 @@
 // What planning goes by in the place of a job's top and mark: its highest layout other than 0, and whether it asks nobody.
+#![tactic(auto)]
+
 ghost use Rattle.std.specs.Prelude.{◌≡◌, cond, not, ◌+◌, ◌<◌, length, get_or, eqb};
 ghost use Rattle.model.specs.Tree.{layout_limit};
 ghost use Rattle.settle.specs.Spanned.{branch_cells};

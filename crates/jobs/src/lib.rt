@@ -1,4 +1,6 @@
 // The jobs of a table: their tops, bottoms and windows, and whether they can be planned (document 01, "What each operation turns away", refusals 5, 6 and 9).
+#![tactic(auto)]
+
 ghost use Rattle.std.specs.Prelude.{◌<◌, ◌≤◌, ◌≡◌, length, get_or};
 ghost use Rattle.model.specs.Tree.{layout_limit};
 ghost use Rattle.model.specs.Jobs.{job_limit};

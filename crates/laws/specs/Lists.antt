@@ -229,10 +229,10 @@ flat_append f [] m = refl
 flat_append f (x ∷ xs) m = rw (flat_append f xs m) (sym (append_assoc (f x) (flat_map f xs) (flat_map f m)))
 
 -- of what f makes of the members
-pub flat_map : {A B : Type 0} (g : B → List ℕ) (f : A → B) (l : List A) → flat_map g (map f l) ≡ flat_map (λ (x : A). g (f x)) l
+pub flat_map_map : {A B : Type 0} (g : B → List ℕ) (f : A → B) (l : List A) → flat_map g (map f l) ≡ flat_map (λ (x : A). g (f x)) l
 unfolding flat_map
-flat_map g f [] = refl
-flat_map g f (x ∷ xs) = ap (λ (m : List ℕ). g (f x) ++ m) (flat_map g f xs)
+flat_map_map g f [] = refl
+flat_map_map g f (x ∷ xs) = ap (λ (m : List ℕ). g (f x) ++ m) (flat_map_map g f xs)
 
 -- one member more
 pub flat_more : {A : Type 0} (f : A → List ℕ) (l : List A) (x : A) → flat_map f (l ++ x ∷ []) ≡ flat_map f l ++ f x
@@ -336,7 +336,7 @@ module _ (p : ℕ → Bool) where
       (answers (p x))
 
   -- where nothing is found nothing passes
-  pub find_none : {l : List ℕ} {x : ℕ} → Mem x l → find p l ≡ none → p x ≡ false
+  pub find_none : {x : ℕ} {l : List ℕ} → Mem x l → find p l ≡ none → p x ≡ false
   unfolding find
   find_none {x} (here {x = y} {xs = ys} e) f = ⊎_elim
       (λ (t : p y ≡ true). cc)
@@ -348,7 +348,7 @@ module _ (p : ℕ → Bool) where
       (answers (p y))
 
   -- what is found comes before the others that pass
-  pub find_first : (R : ℕ → ℕ → Type 0) {l : List ℕ} {j x : ℕ} → AllPairs R l → Mem x l → find p l ≡ some j → p x ≡ true → (x ≡ j) ⊎ R j x
+  pub find_first : (R : ℕ → ℕ → Type 0) {j x : ℕ} {l : List ℕ} → AllPairs R l → Mem x l → find p l ≡ some j → p x ≡ true → (x ≡ j) ⊎ R j x
   unfolding find
   find_first R {j = j} {x = x} s (here {x = y} {xs = ys} e) f t = inl (let passed : p y ≡ true = ap p (sym e) ∙ t in cc)
   find_first R {j = j} {x = x} s (there {x = y} {xs = ys} m) f t = ⊎_elim

@@ -1,4 +1,6 @@
 // Lines of output (document 01, "The plan"), written one after the other: each function appends from `at` on and answers where the next byte goes.
+#![tactic(auto)]
+
 ghost use Rattle.std.specs.Prelude.{◌≡◌, [], ◌∷◌, ◌++◌, ◌+◌, ◌-◌, ◌<◌, ◌≤◌, length, take, replicate};
 ghost use Rattle.model.specs.Output.{hex, line, pair_line, single_line, totals_line, group_count_line, refusal_bytes};
 ghost use Rattle.lines.specs.Writing.{Appended, digit_bytes};

@@ -7,11 +7,11 @@ use Rattle.model.specs.Table.{layout_frame, job_frame, solo_frame, window_frame,
 use Rattle.model.specs.declared.Frame.{Frame}
 use Rattle.model.specs.declared.Frame.TheVariants.{Layout, Job, Solo, Windowed, End}
 use Rattle.model.specs.declared.FrameRead.{FrameRead}
-use Rattle.model.specs.declared.FrameRead.TheVariants as frame-read
+use Rattle.model.specs.declared.FrameRead.TheVariants as frame_read
 use Rattle.model.specs.declared.Settled.{Settled}
 use Rattle.model.specs.declared.Settled.TheVariants as settled
 use Rattle.model.specs.declared.TableRead.{TableRead}
-use Rattle.model.specs.declared.TableRead.TheVariants as table-read
+use Rattle.model.specs.declared.TableRead.TheVariants as table_read
 use Rattle.model.specs.declared.Planned.{Planned}
 use Rattle.model.specs.declared.Planned.TheVariants as planned
 
@@ -44,8 +44,8 @@ settled_answer (settled.Refused r) = refuses r.number r.place
 
 -- reading a table gives N and M, or refuses
 abbrev pub table_answer : TableRead → Answer
-table_answer (table-read.Read c) = gives (c.layouts ∷ c.jobs ∷ [])
-table_answer (table-read.Refused r) = refuses r.number r.place
+table_answer (table_read.Read c) = gives (c.layouts ∷ c.jobs ∷ [])
+table_answer (table_read.Refused r) = refuses r.number r.place
 
 -- planning gives pairs, singles and cell count, or refuses
 abbrev pub planned_answer : Planned → Answer

@@ -7,7 +7,7 @@ pub data Verdict : Type 0 where
 
 -- refusal `number` at `place`, if the ground holds
 abbrev pub refuse_if : Bool → ℕ → ℕ → Verdict
-refuse_if ground number place = cond ground (refused number place) accepted
+refuse_if applies number place = cond applies (refused number place) accepted
 
 -- the first verdict that refuses
 infixr 40 ◌then◌

@@ -1,4 +1,6 @@
 // The numbers and answers that every part of the planner speaks in, and, in specs/, what document 01 says of them.
+#![tactic(auto)]
+
 ghost use Rattle.std.specs.Prelude.{◌≡◌, ◌&&◌, eqb, leb, ltb};
 ghost use Rattle.model.specs.Tree.{FFFF};
 ghost use Rattle.model.specs.Jobs.{window_limit};

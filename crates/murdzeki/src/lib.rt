@@ -1,4 +1,6 @@
 // The library for C (include/murdzeki.h): the exported functions, each with the contract of its operation.
+#![tactic(auto)]
+
 ghost use Rattle.model.specs.Outcomes.{RunOutcome, GroupRunOutcome};
 
 use model::LaneCount;

@@ -1,4 +1,6 @@
 // A job's own line, which a refusal of the job has as its place. No buffer holds it, so it is looked for in the bytes again: only a refusal pays for it.
+#![tactic(auto)]
+
 ghost use Rattle.std.specs.Prelude.{◌≡◌, ◌<◌};
 ghost use Rattle.frame.specs.Lines.{job_width};
 ghost use Rattle.own_line.specs.OwnLine.{own_line};

@@ -1,4 +1,6 @@
 // The passes of a plan (document 01, "The plan"): made in the work cells, from a table to its schedule and by a sweep over it, and read off them.
+#![tactic(auto)]
+
 ghost use Rattle.std.specs.Prelude.{List, ℕ, length};
 ghost use Rattle.model.specs.Jobs.{table_of};
 ghost use Rattle.settle.specs.Spanned.{Spanned};

@@ -1,4 +1,6 @@
 // The program: reads a table from standard input, at most 65,536 bytes of it, and writes its plan to standard output.
+#![tactic(auto)]
+
 use libc::{STDIN_FILENO, STDOUT_FILENO};
 
 fn main() {

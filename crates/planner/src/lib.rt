@@ -1,4 +1,6 @@
 // The pass planner (document 01, *Plan*): a table's schedule, the sweep over it, and the passes handed back by job number.
+#![tactic(auto)]
+
 ghost use Rattle.std.specs.Prelude.{◌≡◌, ◌≤◌, ◌++◌, length, drop};
 ghost use Rattle.model.specs.Verdict.{refuses};
 ghost use Rattle.model.specs.Jobs.{table_of, job_limit};

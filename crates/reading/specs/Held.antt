@@ -17,7 +17,7 @@ use Rattle.reading.specs.Lines.{no_bytes}
 use Rattle.reading.specs.declared.After.{After}
 use Rattle.reading.specs.declared.After.TheVariants as after
 use Rattle.reading.specs.declared.Lines.{Lines}
-use Rattle.reading.specs.declared.Lines.TheVariants as lines-read
+use Rattle.reading.specs.declared.Lines.TheVariants as lines_read
 
 -- ---- cells
 
@@ -238,12 +238,12 @@ module _ (bytes parents tops bottoms marks windows : List ℕ) where
 -- ---- where the reading stops
 
 -- before the end it is refused
-pub stopped_open : (n m ends : ℕ) (a : After) (x : Refusal) (r : Lines) → ends ≡ 0 → r ≡ lines-read.Refused x → Stopped n m ends a x r
+pub stopped_open : (n m ends : ℕ) (a : After) (x : Refusal) (r : Lines) → ends ≡ 0 → r ≡ lines_read.Refused x → Stopped n m ends a x r
 stopped_open n m zero a x r e is = is
 stopped_open n m (suc ends) a x r e is = absurd (omega arith)
 
 -- behind it the table is there
-pub stopped_ended : (n m ends : ℕ) (a : After) (x : Refusal) (r : Lines) → ends ≢ 0 → r ≡ lines-read.Ended (record { layouts = n; jobs = m }) a → Stopped n m ends a x r
+pub stopped_ended : (n m ends : ℕ) (a : After) (x : Refusal) (r : Lines) → ends ≢ 0 → r ≡ lines_read.Ended (record { layouts = n; jobs = m }) a → Stopped n m ends a x r
 stopped_ended n m zero a x r e is = absurd (e refl)
 stopped_ended n m (suc ends) a x r e is = is
 

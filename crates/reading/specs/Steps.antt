@@ -14,7 +14,7 @@ use Rattle.reading.specs.declared.Step.TheVariants as step
 use Rattle.reading.specs.declared.After.{After}
 use Rattle.reading.specs.declared.After.TheVariants as after
 use Rattle.reading.specs.declared.Lines.{Lines}
-use Rattle.reading.specs.declared.Lines.TheVariants as lines-read
+use Rattle.reading.specs.declared.Lines.TheVariants as lines_read
 
 -- what reading the bytes from `at` on comes to
 abbrev pub read_from : List ℕ → ℕ → ℕ → Table → List ℕ → Bool → Reading
@@ -201,10 +201,10 @@ pub record EndRead (bytes parents tops bottoms marks windows : List ℕ) (n m : 
 
 -- what a refusal leaves in the cells is open
 abbrev pub LinesRead : List ℕ → List ℕ → List ℕ → List ℕ → List ℕ → List ℕ → Lines → Type 0
-LinesRead bytes parents tops bottoms marks windows (lines-read.Ended c a) = EndRead bytes parents tops bottoms marks windows c.layouts c.jobs a
-LinesRead bytes parents tops bottoms marks windows (lines-read.Refused r) = read_table bytes ≡ stopped r.number r.place
+LinesRead bytes parents tops bottoms marks windows (lines_read.Ended c a) = EndRead bytes parents tops bottoms marks windows c.layouts c.jobs a
+LinesRead bytes parents tops bottoms marks windows (lines_read.Refused r) = read_table bytes ≡ stopped r.number r.place
 
 -- where the reading stops, after n layouts, m jobs and so many ends: before the end it is refused, behind the end it tells what stands there
 abbrev pub Stopped : ℕ → ℕ → ℕ → After → Refusal → Lines → Type 0
-Stopped n m zero a x r = r ≡ lines-read.Refused x
-Stopped n m (suc ends) a x r = r ≡ lines-read.Ended (record { layouts = n; jobs = m }) a
+Stopped n m zero a x r = r ≡ lines_read.Refused x
+Stopped n m (suc ends) a x r = r ≡ lines_read.Ended (record { layouts = n; jobs = m }) a

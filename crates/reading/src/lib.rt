@@ -1,4 +1,6 @@
 // Reads the lines into the buffers, in one pass. The jobs are not checked here: 5 and 6 need the whole tree, which is known at the end.
+#![tactic(auto)]
+
 ghost use Rattle.std.specs.Prelude.{◌≡◌, false, List, ℕ, ◌+◌, ◌<◌, ◌≤◌, length, leb};
 ghost use Rattle.model.specs.Jobs.{Table, job_limit};
 ghost use Rattle.model.specs.Table.{layout_frame, window_frame, end_frame, beyond_windows};

@@ -1,5 +1,7 @@
 // *Whole run* (document 01, "What each operation turns away"), from a table's bytes to the bytes of its plan, and the second one beside it, for a press with more lanes
 // (document 02, 2026-07).
+#![tactic(auto)]
+
 mod print;
 
 ghost use Rattle.std.specs.Prelude.{◌≡◌, true, ◌*◌, ◌≤◌, length};

@@ -1,5 +1,7 @@
 // The schedule that the sweep goes by, in the work cells: what it has to know of a table, by place in the running order. It lies in parts of as many
 // cells as there are places, numbered below; part k begins at k times the number of places.
+#![tactic(auto)]
+
 ghost use Rattle.std.specs.Prelude.{◌≡◌, ◌+◌, ◌*◌, ◌<◌, length, get_or, set};
 ghost use Rattle.model.specs.Jobs.{job_limit, window_limit};
 ghost use Rattle.schedule.specs.InWork.{order_cell, job_in, window_in, slot_part, from_part, to_part, reached_part, due_part, mate_part, opener_part};

@@ -1,1 +1,2 @@
 // Laws of the schedule of a table, in specs/; there is no code here.
+#![tactic(auto)]

@@ -2,6 +2,8 @@
 // 2n + 1, slot s at width + s. A node holds the smallest place under it, FFFF for none. Only the lower levels are kept: the nodes of the uppermost of these
 // stand side by side, and a search goes along them. The shelves of all windows stand side by side over one row of slots, in one tree: a shelf's own measures tell only
 // how many nodes document 01 counts.
+#![tactic(auto)]
+
 ghost use Rattle.std.specs.Prelude.{◌≡◌, ◌-◌, ◌<◌, ◌≤◌, min, length};
 ghost use Rattle.std.specs.Int.Count.{count_trailing_zeros};
 ghost use Rattle.model.specs.Jobs.{job_limit};

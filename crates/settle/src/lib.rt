@@ -1,4 +1,6 @@
 // Depth, branch, first leaf and last leaf of each layout in a tree array, and the check of the parents that they come from.
+#![tactic(auto)]
+
 ghost use Rattle.std.specs.Prelude.{◌≡◌, List, [], ℕ, ◌+◌, ◌<◌, ◌≤◌, length, get_or, ltb};
 ghost use Rattle.model.specs.Verdict.{refuses, answer, refuse_if, ◌then◌};
 ghost use Rattle.model.specs.Tree.{layout_limit, right_parent, tree_verdict, ancestor_or_self};

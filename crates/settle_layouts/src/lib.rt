@@ -1,4 +1,6 @@
 // *Settle layouts* (document 01, "What each operation turns away"): depth, first leaf and last leaf of each layout, in lent results.
+#![tactic(auto)]
+
 ghost use Rattle.std.specs.Prelude.{◌≡◌, ℕ, ◌+◌, ◌≤◌, length, get_or};
 ghost use Rattle.model.specs.Verdict.{refuses};
 ghost use Rattle.model.specs.Answers.{settled_answer};

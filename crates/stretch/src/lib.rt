@@ -1,5 +1,7 @@
 // The shared stretch of two lists of layout numbers (document 01, "What each operation turns away", as 2026-02 changed it), handed back as a part of the list that it
 // begins.
+#![tactic(auto)]
+
 ghost use Rattle.std.specs.Prelude.{◌≡◌};
 ghost use Rattle.model.specs.Stretch.{agreement, leading, dropped, StretchOutcome};
 ghost use Rattle.model.specs.Lists.{index_of};

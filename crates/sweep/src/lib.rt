@@ -1,5 +1,7 @@
 // The sweep over a schedule (000, Algorithm 2): each place still free at its turn takes the smallest place that waits in the span that it asks for. It
 // knows places, slots, spans of slots, and shelves by window; no tree of layouts, layout or job.
+#![tactic(auto)]
+
 ghost use Rattle.std.specs.Prelude.{◌≡◌, false, ℕ, ◌+◌, ◌*◌, ◌<◌, ◌≤◌, max, length, get_or};
 ghost use Rattle.schedule.specs.Schedule.{Schedule};
 ghost use Rattle.schedule.specs.InWork.{slot_part, tree_part, Swept};

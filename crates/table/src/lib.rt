@@ -1,4 +1,6 @@
 // *Read a table* (document 01, "What each operation turns away"): from bytes to parents, tops, bottoms, solo marks and windows.
+#![tactic(auto)]
+
 ghost use Rattle.std.specs.Prelude.{◌≡◌, not, length};
 ghost use Rattle.model.specs.Verdict.{accepted, refuse_if};
 ghost use Rattle.model.specs.Jobs.{Table};
