@@ -12,14 +12,14 @@ use segment_tree::{Candidates, Shape};
 use sweep::Reached;
 
 // What a sweep comes to: so many full groups, one after the other in the members' cells, or the word that a group is not full.
-#[derive(Drop)]
+#[derive(Clone, Copy)]
 pub enum Grouped {
     Full(usize),
     Short,
 }
 
 // A place that asks: the places that can wait in its span, and where that ends.
-#[derive(Drop)]
+#[derive(Clone, Copy)]
 struct Asked {
     place: Rank,
     candidates: Candidates,
@@ -27,7 +27,7 @@ struct Asked {
 }
 
 // How far a sweep has come: whose turn is next, what is reached, how many groups are made, and whether one is not full.
-#[derive(Drop)]
+#[derive(Clone, Copy)]
 struct Progress {
     turn: usize,
     reached: Reached,

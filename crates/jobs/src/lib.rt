@@ -37,7 +37,7 @@ pub fn window_of(windows: &[u8], job: JobNumber) -> WindowNumber
 }
 
 // What checking the jobs answers: all are right, or the number of the refusal and the smallest job that is wrong.
-#[derive(Drop)]
+#[derive(Clone, Copy)]
 pub enum JobCheck {
     Right,
     Wrong(u16, JobNumber),

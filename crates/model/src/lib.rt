@@ -10,7 +10,7 @@ ghost use Rattle.model.specs.Grouping.{least_lanes, most_lanes};
 pub const ABSENT: u16 = 0xFFFF;
 
 // The number of a layout, a node of the tree.
-#[derive(Drop)]
+#[derive(Clone, Copy)]
 pub struct LayoutNumber(pub u16);
 
 impl LayoutNumber {
@@ -47,7 +47,7 @@ impl LayoutNumber {
 }
 
 // The number of a job, a downward path in the tree.
-#[derive(Drop)]
+#[derive(Clone, Copy)]
 pub struct JobNumber(pub u16);
 
 impl JobNumber {
@@ -56,7 +56,7 @@ impl JobNumber {
 }
 
 // The number of a printing window.
-#[derive(Drop)]
+#[derive(Clone, Copy)]
 pub struct WindowNumber(pub u8);
 
 impl WindowNumber {
@@ -72,7 +72,7 @@ impl WindowNumber {
 }
 
 // How many lanes a press has.
-#[derive(Drop)]
+#[derive(Clone, Copy)]
 pub struct LaneCount(pub usize);
 
 impl LaneCount {
@@ -91,7 +91,7 @@ impl LaneCount {
 }
 
 // A place in the running order (000: a position in the bottom-up enumeration).
-#[derive(Drop)]
+#[derive(Clone, Copy)]
 pub struct Rank(pub u16);
 
 impl Rank {
@@ -118,14 +118,14 @@ impl Rank {
 }
 
 // Why an input is turned away: document 01's number, and the place.
-#[derive(Drop)]
+#[derive(Clone, Copy)]
 pub struct Refusal {
     pub number: u16,
     pub place: u16,
 }
 
 // One line of the table.
-#[derive(Drop)]
+#[derive(Clone, Copy)]
 pub enum Frame {
     Layout(LayoutNumber),
     Job(LayoutNumber, LayoutNumber),
@@ -136,35 +136,35 @@ pub enum Frame {
 }
 
 // What reading a line answers.
-#[derive(Drop)]
+#[derive(Clone, Copy)]
 pub enum FrameRead {
     Read(Frame),
     Refused(Refusal),
 }
 
 // What settling the layouts answers.
-#[derive(Drop)]
+#[derive(Clone, Copy)]
 pub enum Settled {
     Done,
     Refused(Refusal),
 }
 
 // How many layouts and jobs a table has.
-#[derive(Drop)]
+#[derive(Clone, Copy)]
 pub struct Counts {
     pub layouts: u16,
     pub jobs: u16,
 }
 
 // What reading a table answers.
-#[derive(Drop)]
+#[derive(Clone, Copy)]
 pub enum TableRead {
     Read(Counts),
     Refused(Refusal),
 }
 
 // What a plan comes to: its pairs, its singles, and the cells that document 01 counts for its lookups.
-#[derive(Drop)]
+#[derive(Clone, Copy)]
 pub struct Totals {
     pub pairs: u16,
     pub singles: u16,
@@ -172,7 +172,7 @@ pub struct Totals {
 }
 
 // What planning answers.
-#[derive(Drop)]
+#[derive(Clone, Copy)]
 pub enum Planned {
     Done(Totals),
     Refused(Refusal),

@@ -15,7 +15,7 @@ use schedule::{job_at, mate_at, opener_at};
 use settle::TREE;
 
 // A pass of the press: two jobs, the earlier first, with the layout that they print on, or one job alone.
-#[derive(Drop)]
+#[derive(Clone, Copy)]
 pub enum Pass {
     Pair(JobNumber, JobNumber, LayoutNumber),
     Single(JobNumber),

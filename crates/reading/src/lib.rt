@@ -12,7 +12,7 @@ use frame::{LAYOUT_LINE, LONG_LINE, WINDOW_LINE};
 use model::{Counts, Frame, FrameRead, JobNumber, LayoutNumber, Refusal, WindowNumber};
 
 // How far the reading has come: where the next line begins, and how many layouts, jobs and ends stand before it.
-#[derive(Drop)]
+#[derive(Clone, Copy)]
 struct Progress {
     at: usize,
     layouts: usize,
@@ -22,7 +22,7 @@ struct Progress {
 
 // What the next line is: a layout with its parent, a job with its mark, a job with its window, or the end. A mark is a whole word here: a step that fits one
 // word would be passed packed into it, and taken apart again.
-#[derive(Drop)]
+#[derive(Clone, Copy)]
 enum Step {
     Layout(LayoutNumber),
     Job(LayoutNumber, LayoutNumber, usize),
@@ -32,7 +32,7 @@ enum Step {
 }
 
 // What stands after the end line: nothing in a whole table.
-#[derive(Drop)]
+#[derive(Clone, Copy)]
 pub enum After {
     Nothing,
     Line(Refusal),
@@ -40,7 +40,7 @@ pub enum After {
 
 // What the lines come to: an end with right counts and what stands after it, or a refusal of a line before that. What stands after the end waits for the jobs to be
 // checked: a wrong one comes first.
-#[derive(Drop)]
+#[derive(Clone, Copy)]
 pub enum Lines {
     Ended(Counts, After),
     Refused(Refusal),

@@ -35,7 +35,7 @@ const SOME: usize = 1024;
 const SOME_BYTES: usize = SOME * frame::LONG_LINE;
 
 // The press that a run is for: one with two lanes, which runs a job alone where it has no partner, or one that takes full passes alone.
-#[derive(Drop)]
+#[derive(Clone, Copy)]
 enum Press {
     TwoLanes,
     FullPasses(LaneCount),

@@ -19,14 +19,14 @@ use buffers::{larger, lesser};
 use model::Rank;
 
 // The measures of a tree: it has `width` slots, and the nodes from `kept` on, so `kept` of them on the uppermost level.
-#[derive(Drop)]
+#[derive(Clone, Copy)]
 pub struct Shape {
     pub kept: usize,
     pub width: usize,
 }
 
 // Where a shelf begins in the row of slots, and how many slots it has.
-#[derive(Drop)]
+#[derive(Clone, Copy)]
 pub struct Shelf {
     pub base: usize,
     pub size: usize,
@@ -174,7 +174,7 @@ fn count_visits(levels: usize, from: usize, to: usize) -> u32
 }
 
 // Part of a search: what is left of a span, with the smallest place taken in so far.
-#[derive(Drop)]
+#[derive(Clone, Copy)]
 struct Span {
     left: usize,
     right: usize,
@@ -224,7 +224,7 @@ fn range_minimum(nodes: &[u16], shape: Shape, from: usize, to: usize) -> Rank
 }
 
 // The places that can wait in a span: none before the first, and none after the last.
-#[derive(Drop)]
+#[derive(Clone, Copy)]
 pub struct Candidates {
     pub first: Rank,
     pub last: Rank,

@@ -15,21 +15,21 @@ use schedule::{NODES, STARTS};
 use segment_tree::{Candidates, Shape, Shelf};
 
 // What a sweep comes to: how many passes have two places, and how many nodes document 01 counts for its lookups.
-#[derive(Drop)]
+#[derive(Clone, Copy)]
 pub struct Matched {
     pub pairs: u16,
     pub visits: u32,
 }
 
 // How far the sweep has reached: how many of the places that can be found, and a place that none of these comes after.
-#[derive(Drop)]
+#[derive(Clone, Copy)]
 pub struct Reached {
     pub next: usize,
     pub last: Rank,
 }
 
 // How far a sweep has come: what it has reached, and what it has made.
-#[derive(Drop)]
+#[derive(Clone, Copy)]
 struct Progress {
     reached: Reached,
     passes: usize,
@@ -188,7 +188,7 @@ pub fn take_mate(work: &mut [u16], count: usize, shape: Shape, place: Rank, mate
 }
 
 // What the turn of a place that asks comes to: its mate, FFFF for none, and how many nodes document 01 counts for its lookup.
-#[derive(Drop)]
+#[derive(Clone, Copy)]
 struct Found {
     place: Rank,
     visits: u32,

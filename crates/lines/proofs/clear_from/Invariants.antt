@@ -1,0 +1,15 @@
+-- `lines::clear_from` meets its contract: up to `i` stand the bytes kept, and then zeros.
+use borrow.Author.Rules.{rules}
+use Prim.Native.Nat.{◌≤◌, ◌-◌}
+use mathlib.Core.Path.{◌≡◌, refl}
+use mathlib.Core.List.{◌++◌}
+use lib.ListN.{length, take, replicate, length-set}
+use Rattle.lines.specs.Writing.{cleared_none, cleared_more, cleared_all}
+use native.Mathlib.Omega.{arith}
+use Rattle.lines.proofs.clear_from.Given as goal
+
+abbrev pub invariant-loop-i : goal.invariant-loop-i
+invariant-loop-i l = (l.at ≤ l.i) × (l.i ≤ length l.initial.out) × (length l.out ≡ length l.initial.out) × (take l.i l.out ≡ take l.at l.initial.out ++ replicate (l.i - l.at) 0)
+
+abbrev pub decreases-loop-i : goal.decreases-loop-i
+decreases-loop-i l = length l.initial.out - l.i
