@@ -1,6 +1,5 @@
 -- `frame::digit_byte` meets its contract: the digits stand in two ranges of bytes.
 use Rattle.frame.proofs.Digits.{low_byte, high_byte}
-use borrow.Author.Rules.{rules}
 use Rattle.frame.proofs.digit_byte.Goals as goal
 
 pub returns-then-digit-lt10 : goal.returns-then-digit-lt10

@@ -1,7 +1,6 @@
 -- `frame::digit_value` meets its contract: the table holds it.
 use Rattle.frame.proofs.Digits.{read_small}
 use native.Mathlib.Omega.{arith}
-use borrow.Author.Rules.{rules}
 use Rattle.frame.proofs.digit_value.Goals as goal
 
 pub returns : goal.returns

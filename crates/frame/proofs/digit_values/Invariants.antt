@@ -1,9 +1,6 @@
 -- `frame::digit_values` meets its contract: the values of the digits passed are set.
 use Prim.Native.Nat.{◌≤◌, ◌-◌}
-use Rattle.frame.proofs.Digits.{ValuesBelow, values_none, values_more, values_all}
-use mathlib.Core.Path.{◌≡◌}
-use borrow.Author.Rules.{rules}
-use native.Mathlib.Omega.{arith}
+use Rattle.frame.proofs.Digits.{ValuesBelow}
 use Rattle.frame.proofs.digit_values.Given as goal
 
 abbrev pub invariant-loop-digit : goal.invariant-loop-digit

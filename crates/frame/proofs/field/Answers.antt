@@ -1,5 +1,4 @@
 -- `frame::field` meets its contract: the four digits are added up by their places.
-use borrow.Author.Rules.{rules}
 use Rattle.frame.proofs.Digits.{field_read}
 use Rattle.frame.proofs.field.Goals as goal
 

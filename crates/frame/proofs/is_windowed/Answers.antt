@@ -4,8 +4,6 @@ use mathlib.Core.Path.{◌≡◌, sym, ◌∙◌}
 use mathlib.Core.Bool.{true}
 use native.Mathlib.Omega.{arith}
 use lib.ListN.{length}
-use borrow.Author.Tests.{not-true, not-false}
-use borrow.Author.Rules.{rules}
 use Rattle.frame.specs.Fields.{ends_after}
 use Rattle.frame.proofs.Frames.{ends_within, windowed_end, top_wrong, bottom_wrong, window_wrong, windowed_kind}
 use Rattle.frame.proofs.is_windowed.Goals as goal

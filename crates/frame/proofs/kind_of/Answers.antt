@@ -1,5 +1,4 @@
 -- `frame::kind_of` meets its contract: after '0' the second byte tells the kind.
-use borrow.Author.Rules.{rules}
 use Rattle.frame.proofs.Digits.{kind_read, kind_unknown}
 use Rattle.frame.proofs.kind_of.Goals as goal
 

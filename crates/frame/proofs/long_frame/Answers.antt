@@ -1,11 +1,7 @@
 -- `frame::long_frame` meets its contract: of the lines that end after 10 bytes those of kind 2, 4 and 3 with right fields are frames.
-use mathlib.Core.Path.{◌≡◌}
 use native.Mathlib.Omega.{arith}
 use borrow.Author.Tests.{ne_eqb}
-use borrow.Author.Rules.{rules}
-use Rattle.model.specs.Table.{first_line, frame_of, beyond_windows}
-use Rattle.frame.specs.Fields.{spells}
-use Rattle.frame.specs.Lines.{long_frame}
+use Rattle.model.specs.Table.{beyond_windows}
 use Rattle.frame.proofs.Frames.{ends_within, first_wrong, second_wrong, long_right}
 use Rattle.frame.proofs.long_frame.Goals as goal
 
@@ -41,40 +37,42 @@ kind_of-kind-requires c = omega (arith, ends_within 10 c.args.s.now c.requires.s
 pub returns-in-50 : goal.returns-in-50
 unfolding beyond_windows
 returns-in-50 c =
-    let frame_of : frame_of (first_line c.args.s.now)
-    ≡ long_frame (spells c.kind_of-kind.result) c.field-first.result c.field-second.result = let f = c.field-first in
+    let f = c.field-first in
     let g = c.field-second in
+    let kind = c.kind_of-kind in
+    let read =
     long_right c.args.s.now c.requires.s_value.0 c.requires.s_value.1 f.result g.result f.ensures g.ensures
-    c.if-first-ge-WRONG_DIGIT.false c.if-second-ge-WRONG_DIGIT.false c.kind_of-kind.result c.kind_of-kind.ensures in
-    rw (frame_of, c.in-50.keys1)
+    c.if-first-ge-WRONG_DIGIT.false c.if-second-ge-WRONG_DIGIT.false kind.result kind.ensures in
+    rw (read, c.in-50.is)
 
 pub returns-in-52 : goal.returns-in-52
 unfolding beyond_windows
 returns-in-52 c =
-    let frame_of : frame_of (first_line c.args.s.now)
-    ≡ long_frame (spells c.kind_of-kind.result) c.field-first.result c.field-second.result = let f = c.field-first in
+    let f = c.field-first in
     let g = c.field-second in
+    let kind = c.kind_of-kind in
+    let read =
     long_right c.args.s.now c.requires.s_value.0 c.requires.s_value.1 f.result g.result f.ensures g.ensures
-    c.if-first-ge-WRONG_DIGIT.false c.if-second-ge-WRONG_DIGIT.false c.kind_of-kind.result c.kind_of-kind.ensures in
-    rw (frame_of, c.in-52.keys2)
+    c.if-first-ge-WRONG_DIGIT.false c.if-second-ge-WRONG_DIGIT.false kind.result kind.ensures in
+    rw (read, c.in-52.is)
 
 pub returns-in-51 : goal.returns-in-51
 unfolding beyond_windows
 returns-in-51 c =
-    let frame_of : frame_of (first_line c.args.s.now)
-    ≡ long_frame (spells c.kind_of-kind.result) c.field-first.result c.field-second.result = let f = c.field-first in
+    let f = c.field-first in
     let g = c.field-second in
+    let kind = c.kind_of-kind in
+    let read =
     long_right c.args.s.now c.requires.s_value.0 c.requires.s_value.1 f.result g.result f.ensures g.ensures
-    c.if-first-ge-WRONG_DIGIT.false c.if-second-ge-WRONG_DIGIT.false c.kind_of-kind.result c.kind_of-kind.ensures in
-    rw (frame_of, c.in-51.keys3)
+    c.if-first-ge-WRONG_DIGIT.false c.if-second-ge-WRONG_DIGIT.false kind.result kind.ensures in
+    rw (read, c.in-51.is)
 
 pub returns-in_default : goal.returns-in_default
 returns-in_default c =
-    let frame_of : frame_of (first_line c.args.s.now)
-    ≡ long_frame (spells c.kind_of-kind.result) c.field-first.result c.field-second.result = let f = c.field-first in
+    let f = c.field-first in
     let g = c.field-second in
+    let kind = c.kind_of-kind in
+    let read =
     long_right c.args.s.now c.requires.s_value.0 c.requires.s_value.1 f.result g.result f.ensures g.ensures
-    c.if-first-ge-WRONG_DIGIT.false c.if-second-ge-WRONG_DIGIT.false c.kind_of-kind.result c.kind_of-kind.ensures in
-    let kind = c.kind_of-kind.result in
-    let other = c.in_default.rest in
-    rw (c.no_frame-in_default.ensures, frame_of, ne_eqb kind 50 other.0.0.1, ne_eqb kind 52 other.0.1, ne_eqb kind 51 other.1)
+    c.if-first-ge-WRONG_DIGIT.false c.if-second-ge-WRONG_DIGIT.false kind.result kind.ensures in
+    rw (c.no_frame-in_default.ensures, read, ne_eqb kind.result 50 (λ e. omega arith), ne_eqb kind.result 52 (λ e. omega arith), ne_eqb kind.result 51 (λ e. omega arith))

@@ -3,7 +3,6 @@ use mathlib.Core.Path.{refl, sym, ◌∙◌}
 use mathlib.Core.List.{[]}
 use native.Mathlib.Nat.{le_of_lt}
 use lib.ListN.{drop, drop_of_length-le}
-use borrow.Author.Rules.{rules}
 use Rattle.frame.specs.Lines.{rest}
 use Rattle.frame.proofs.Frames.{windowed_end, no_ends}
 use Rattle.frame.proofs.read_frame.Goals as goal

@@ -1,7 +1,6 @@
 -- `frame::short_frame` meets its contract: of the lines that end after 6 bytes those of kind 1 with a right field are frames.
 use native.Mathlib.Omega.{arith}
 use borrow.Author.Tests.{ne_eqb}
-use borrow.Author.Rules.{rules}
 use Rattle.model.specs.Table.{beyond_windows}
 use Rattle.frame.proofs.Frames.{ends_within, short_wrong, short_right}
 use Rattle.frame.proofs.short_frame.Goals as goal

@@ -1,5 +1,4 @@
 -- `frame::window_field` meets its contract: the two digits are added up by their places.
-use borrow.Author.Rules.{rules}
 use Rattle.frame.proofs.Digits.{window_read}
 use Rattle.frame.proofs.window_field.Goals as goal
 

@@ -4,7 +4,6 @@ use mathlib.Core.Path.{◌≡◌, sym, ◌∙◌}
 use mathlib.Core.Option.{some}
 use native.Mathlib.Omega.{arith}
 use borrow.Author.Tests.{ltb-true, ltb-false, le-leb, lt-leb}
-use borrow.Author.Rules.{rules}
 use Rattle.model.specs.Table.{window_frame, first_line, frame_of, beyond_windows}
 use Rattle.frame.proofs.Frames.{WindowedFields, windowed_fields, read_right}
 use Rattle.frame.proofs.windowed_frame.Goals as goal
