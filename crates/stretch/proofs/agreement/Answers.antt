@@ -1,10 +1,5 @@
 -- `agreement` answers the longest leading part that both lists share: the numbers walked agree, so their count and the agreement of what
 -- remains make the agreement of the whole lists. The measure is what is left of the length.
-use Prim.Native.Nat.{◌+◌, ◌-◌}
-use mathlib.Core.Path.{◌≡◌}
-use borrow.Author.Rules.{rules}
-use lib.ListN.{length, drop}
-use Rattle.model.specs.Stretch.{agreement}
 use Rattle.stretch.proofs.Laws.{agreement_next, agreement_stops, agreement_ends, agreement_ends_other}
 use Rattle.stretch.proofs.agreement.Goals as goal
 

@@ -2,10 +2,8 @@
 -- remains make the agreement of the whole lists. The measure is what is left of the length.
 use Prim.Native.Nat.{◌+◌, ◌-◌}
 use mathlib.Core.Path.{◌≡◌}
-use borrow.Author.Rules.{rules}
 use lib.ListN.{length, drop}
 use Rattle.model.specs.Stretch.{agreement}
-use Rattle.stretch.proofs.Laws.{agreement_next, agreement_stops, agreement_ends, agreement_ends_other}
 use Rattle.stretch.proofs.agreement.Given as goal
 
 abbrev pub invariant-loop-count : goal.invariant-loop-count

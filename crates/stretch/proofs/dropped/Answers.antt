@@ -1,6 +1,5 @@
 -- `dropped` answers its definition: the first number is read where there is one.
 use mathlib.Core.Path.{sym, ◌∙◌}
-use borrow.Author.Rules.{rules}
 use Rattle.stretch.proofs.Laws.{dropped_none, dropped_one, dropped_other}
 use Rattle.stretch.proofs.dropped.Goals as goal
 

@@ -1,12 +1,9 @@
 -- `position_of` answers the first position: none of the numbers walked is the one sought, so their count and the position in what remains make the
 -- position in the whole list. The measure is what is left of the length.
 use Prim.Native.Nat.{◌+◌, ◌-◌}
-use mathlib.Core.Path.{◌≡◌, sym, ◌∙◌}
-use borrow.Author.Rules.{rules}
-use borrow.Author.Tests.{eqb-true, eqb-false}
+use mathlib.Core.Path.{◌≡◌}
 use lib.ListN.{length, drop}
 use Rattle.model.specs.Lists.{index_of}
-use Rattle.stretch.proofs.Laws.{place_found, place_next, place_absent}
 use Rattle.stretch.proofs.position_of.Given as goal
 
 abbrev pub invariant-loop-position : goal.invariant-loop-position

@@ -2,7 +2,6 @@
 use Prim.Native.Nat.{ℕ, ◌+◌, ◌*◌, ◌≤◌}
 use mathlib.Core.Path.{◌≡◌, ap}
 use native.Mathlib.Omega.{arith}
-use borrow.Author.Rules.{rules}
 use borrow.Author.Rules.{part_to_end}
 use lib.ListN.{length}
 use Rattle.stretch.proofs.Laws.{dropped_le, outcome_dropped}
@@ -47,7 +46,7 @@ returns c =
     let args = c.args in
     outcome_dropped args.first args.second _ _ _ c.dropped-first_dropped.result c.dropped-second_dropped.result c.dropped-first_dropped.ensures c.dropped-second_dropped.ensures
     (part_to_end args.first.now c.dropped-first_dropped.result)
-    (doubled args.first.ptr c.dropped-first_dropped.result)
+    (doubled args.first.ref_ptr c.dropped-first_dropped.result)
     (part_to_end args.second.now c.dropped-second_dropped.result)
-    (doubled args.second.ptr c.dropped-second_dropped.result)
+    (doubled args.second.ref_ptr c.dropped-second_dropped.result)
     c.stretch_of.ensures
