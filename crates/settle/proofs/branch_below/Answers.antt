@@ -1,6 +1,5 @@
 -- `settle::branch_below` meets its contract: a test for layout 0.
 use mathlib.Core.Path.{refl, sym, ◌∙◌}
-use borrow.Author.Rules.{rules}
 use Rattle.settle.proofs.branch_below.Goals as goal
 
 pub returns-then-equals : goal.returns-then-equals

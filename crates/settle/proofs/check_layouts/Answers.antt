@@ -2,7 +2,6 @@
 use mathlib.Core.Path.{sym, ◌∙◌}
 use borrow.Author.Tests.{ltb-true, ltb-false}
 use Rattle.settle.proofs.Outcome.{too_many, no_layouts, wrong_layout, all_right}
-use borrow.Author.Rules.{rules}
 use Rattle.settle.proofs.check_layouts.Goals as goal
 
 pub returns-then-count-gt-LIMIT : goal.returns-then-count-gt-LIMIT

@@ -1,12 +1,8 @@
 -- `settle::first_wrong` meets its contract: the layouts passed are right.
 use Prim.Native.Nat.{◌≤◌, ◌-◌}
-use mathlib.Core.Path.{◌≡◌, refl, sym, ◌∙◌}
-use borrow.Author.Tests.{not-true, not-false}
+use mathlib.Core.Path.{◌≡◌}
 use lib.ListN.{length, drop}
 use Rattle.model.specs.Tree.{layouts_from}
-use Rattle.settle.proofs.Laws.{layouts_right, layouts_wrong, layouts_end}
-use borrow.Author.Rules.{rules}
-use native.Mathlib.Omega.{arith}
 use Rattle.settle.proofs.first_wrong.Given as goal
 
 abbrev pub invariant-loop-x : goal.invariant-loop-x

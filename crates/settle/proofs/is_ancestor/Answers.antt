@@ -1,6 +1,5 @@
 -- `settle::is_ancestor` meets its contract: left of the span, right of it, or by depth inside it.
 use native.Mathlib.Omega.{arith}
-use borrow.Author.Rules.{rules}
 use Rattle.settle.specs.Spanned.{ancestor_left, ancestor_right, ancestor_inside}
 use Rattle.settle.proofs.is_ancestor.Goals as goal
 

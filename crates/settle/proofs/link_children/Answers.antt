@@ -1,8 +1,7 @@
 -- `settle::link_children` meets its contract. The loop's invariant: the layouts from y on are linked.
 use Prim.Native.Nat.{◌-◌, ◌<◌}
 use lib.ListN.{get_or}
-use Rattle.settle.proofs.Links.{LinkedFrom, linked_none, linked_more, linked_all}
-use borrow.Author.Rules.{rules}
+use Rattle.settle.proofs.Links.{linked_none, linked_more, linked_all}
 use native.Mathlib.Omega.{arith}
 use Rattle.settle.proofs.link_children.Goals as goal
 

@@ -1,6 +1,5 @@
 -- `settle::right_parent` meets its contract: the two cases of a parent's rule.
 use mathlib.Core.Path.{sym, ◌∙◌}
-use borrow.Author.Rules.{rules}
 use borrow.Author.Tests.{eqb-true, eqb-false}
 use Rattle.settle.proofs.Laws.{right_root, right_later}
 use Rattle.settle.proofs.right_parent.Goals as goal

@@ -1,6 +1,5 @@
 -- `settle::settle_tree` meets its contract: the ways up are set, and numbering from layout 0 comes to every layout.
 use Rattle.settle.proofs.Outcome.{unlinked, root_numberable, tree_spanned}
-use borrow.Author.Rules.{rules}
 use Rattle.settle.proofs.settle_tree.Goals as goal
 
 pub link_children-requires : goal.link_children-requires
