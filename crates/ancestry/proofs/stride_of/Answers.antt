@@ -4,19 +4,12 @@ use Prim.Native.Nat.{ℕ, ◌+◌}
 use native.Mathlib.Omega.{arith}
 use borrow.Author.Rules.{rules}
 use Rattle.tree_laws.specs.Leaves.{last_lt}
-use Rattle.ancestry.proofs.stride_of.Statement.{statement}
-use Rattle.ancestry.proofs.stride_of.Tie as tie
+use Rattle.ancestry.proofs.stride_of.Goals as goal
 
-last-leaf-requires : tie.Need-last-leaf-requires
-last-leaf-requires c κs = search rules
-
-add-result : tie.Need-overflow-add-result
-add-result c =
-    let s = c.before.requires.1 in
+pub overflow_add-result : goal.overflow_add-result
+overflow_add-result c =
+    let s = c.requires.1 in
     omega (arith, c.last_leaf.ensures, s.last_at 0 s.tree.nonempty, last_lt _ s.tree 0 s.tree.nonempty, s.tree.small)
 
-returns : tie.Need-returns
+pub returns : goal.returns
 returns c = λ ps s. ap (λ (n : ℕ). n + 2) (c.last_leaf.ensures ∙ s.last_at 0 s.tree.nonempty)
-
-pub stride-of-spec : {M : Type 1} → statement M
-stride-of-spec = tie.close (tie.spec last-leaf-requires add-result returns)
