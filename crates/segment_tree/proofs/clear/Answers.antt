@@ -1,9 +1,8 @@
 -- The first `at` cells are cleared, and those past them untouched.
 use borrow.Author.Rules.{rules}
 use native.Mathlib.Omega.{arith}
-use Prim.Native.Nat.{◌*◌, ◌-◌}
 use mathlib.Core.Path.{refl}
-use Rattle.sweep_laws.specs.Nodes.{ClearedTo, cleared_same, cleared_step, cleared_all}
+use Rattle.sweep_laws.specs.Nodes.{cleared_same, cleared_step, cleared_all}
 use Rattle.segment_tree.proofs.clear.Goals as goal
 
 pub loop-at-init : goal.loop-at-init

@@ -1,9 +1,6 @@
 -- The first `at` cells are cleared, and those past them untouched.
-use borrow.Author.Rules.{rules}
-use native.Mathlib.Omega.{arith}
 use Prim.Native.Nat.{◌*◌, ◌-◌}
-use mathlib.Core.Path.{refl}
-use Rattle.sweep_laws.specs.Nodes.{ClearedTo, cleared_same, cleared_step, cleared_all}
+use Rattle.sweep_laws.specs.Nodes.{ClearedTo}
 use Rattle.segment_tree.proofs.clear.Given as goal
 
 abbrev pub invariant-loop-at : goal.invariant-loop-at

@@ -1,9 +1,5 @@
 -- On the way up every inner node is right but the one at hand, which is right once it takes the place.
-use borrow.Author.Rules.{rules}
-use native.Mathlib.Omega.{arith}
-use mathlib.Core.Path.{◌∙◌}
-use lib.ListN.{length-set}
-use Rattle.sweep_laws.specs.Nodes.{Inserting, inserting_slot, inserting_step, inserting_done}
+use Rattle.sweep_laws.specs.Nodes.{Inserting}
 use Rattle.segment_tree.proofs.insert.Given as goal
 
 abbrev pub invariant-loop-node : goal.invariant-loop-node

@@ -1,7 +1,5 @@
 -- No more than there are slots: what is doubled is at most half of them.
 use Prim.Native.Nat.{◌-◌, ◌≤◌}
-use native.Mathlib.Omega.{arith}
-use borrow.Author.Rules.{rules}
 use Rattle.segment_tree.proofs.kept_for.Given as goal
 
 abbrev pub invariant-loop-slots : goal.invariant-loop-slots

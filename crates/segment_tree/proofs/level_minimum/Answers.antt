@@ -1,8 +1,6 @@
 -- What is taken in, with the nodes that are left, has the smallest place of all.
-use borrow.Author.Rules.{rules}
 use native.Mathlib.Omega.{arith}
-use Prim.Native.Nat.{◌-◌}
-use Rattle.sweep_laws.specs.NodeSpans.{Along, along_first, along_next, along_all}
+use Rattle.sweep_laws.specs.NodeSpans.{along_first, along_next, along_all}
 use Rattle.segment_tree.proofs.level_minimum.Goals as goal
 
 pub loop-at-init : goal.loop-at-init

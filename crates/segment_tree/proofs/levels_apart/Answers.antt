@@ -1,5 +1,4 @@
 -- The ends differ in a digit.
-use borrow.Author.Rules.{rules}
 use native.Mathlib.Omega.{arith}
 use lib.Bits.{bit_xor}
 use lib.Count.{leading_le, trailing_le}

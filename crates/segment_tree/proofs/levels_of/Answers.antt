@@ -1,5 +1,4 @@
 -- A number of 64 digits has at most 64 leading zeros.
-use borrow.Author.Rules.{rules}
 use Prim.Native.Nat.{◌-◌}
 use native.Mathlib.Omega.{arith}
 use lib.Count.{leading_le}

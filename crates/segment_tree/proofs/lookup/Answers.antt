@@ -1,9 +1,7 @@
 -- An empty span holds nothing, and neither does one whose first place that can wait there comes after the last; where the first stands in the span it is the smallest; else the
 -- span is searched.
-use Prim.Native.Nat.{◌<◌}
 use mathlib.Core.Path.{sym, ◌∙◌}
 use native.Mathlib.Omega.{arith}
-use borrow.Author.Rules.{rules}
 use borrow.Author.Tests.{ltb-true, eqb-true}
 use Rattle.sweep_laws.specs.EntryLaws.{smallest_none, smallest_empty, smallest_first}
 use Rattle.segment_tree.proofs.lookup.Goals as goal
@@ -19,24 +17,20 @@ returns-then-comes_before c =
 
 pub overflow_add-shape : goal.overflow_add-shape
 overflow_add-shape c =
-    let slot_inside : (c.args.slot < c.args.to) = ltb-true _ _ c.if-slot-to.true in
-    omega (arith, slot_inside, c.requires.inside, c.requires.tree.room, c.well_formed.0.0)
+    omega (arith, c.if-slot-to.true, c.requires.inside, c.requires.tree.room, c.well_formed.0.0)
 
 pub offset_bounds-nodes-shape : goal.offset_bounds-nodes-shape
 offset_bounds-nodes-shape c =
-    let slot_inside : (c.args.slot < c.args.to) = ltb-true _ _ c.if-slot-to.true in
-    omega (arith, slot_inside, c.requires.inside, c.requires.tree.room, c.well_formed.0.0)
+    omega (arith, c.if-slot-to.true, c.requires.inside, c.requires.tree.room, c.well_formed.0.0)
 
 pub bounds-nodes-shape : goal.bounds-nodes-shape
 bounds-nodes-shape c =
-    let slot_inside : (c.args.slot < c.args.to) = ltb-true _ _ c.if-slot-to.true in
-    omega (arith, slot_inside, c.requires.inside, c.requires.tree.room)
+    omega (arith, c.if-slot-to.true, c.requires.inside, c.requires.tree.room)
 
 pub returns-then-equals : goal.returns-then-equals
 returns-then-equals c =
-    let slot_inside : (c.args.slot < c.args.to) = ltb-true _ _ c.if-slot-to.true in
     let stands = sym (eqb-true _ _ (sym c.equals.ensures ∙ c.if-equals.true)) in
-    smallest_first _ _ c.requires.tree.room _ _ _ _ c.if-from-slot.true slot_inside c.requires.inside c.requires.some_place c.requires.no_smaller stands
+    smallest_first _ _ c.requires.tree.room _ _ _ _ c.if-from-slot.true c.if-slot-to.true c.requires.inside c.requires.some_place c.requires.no_smaller stands
 
 pub range_minimum-requires : goal.range_minimum-requires
 range_minimum-requires c = record {

@@ -1,8 +1,5 @@
 -- On the way up the nodes that are left, with the places taken in so far, have the smallest place of the span.
-use borrow.Author.Tests.{leb-true}
-use Rattle.sweep_laws.specs.NodeSpans.{Narrowed, narrowed_first, narrowed_parents}
-use borrow.Author.Rules.{rules}
-use native.Mathlib.Omega.{arith}
+use Rattle.sweep_laws.specs.NodeSpans.{Narrowed}
 use Rattle.segment_tree.proofs.narrow.Given as goal
 
 abbrev pub invariant-loop-left : goal.invariant-loop-left

@@ -1,9 +1,5 @@
 -- On the way up each inner node is right but the parent of the node at hand.
-use borrow.Author.Rules.{rules}
-use native.Mathlib.Omega.{arith}
-use mathlib.Core.Path.{◌∙◌}
-use lib.ListN.{length-set}
-use Rattle.sweep_laws.specs.Nodes.{Removing, removing_slot, removing_step, removing_done}
+use Rattle.sweep_laws.specs.Nodes.{removing_slot, removing_step, removing_done}
 use Rattle.segment_tree.proofs.remove.Goals as goal
 
 pub loop-node-init : goal.loop-node-init

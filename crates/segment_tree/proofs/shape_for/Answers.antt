@@ -1,7 +1,6 @@
 -- The width is doubled until it holds all places, and no lesser power of two does.
 use native.Mathlib.Omega.{arith}
-use Prim.Native.Nat.{◌-◌}
-use Rattle.sweep_laws.specs.Levels.{Doubled, doubled_none, doubled_more, doubled_enough, width_some}
+use Rattle.sweep_laws.specs.Levels.{doubled_none, doubled_more, doubled_enough, width_some}
 use Rattle.segment_tree.proofs.shape_for.Goals as goal
 
 pub loop-width-init : goal.loop-width-init
