@@ -10,6 +10,7 @@ levels_inside-requires c = (visits_counted _ _ _ c.requires).right_zeros
 pub levels_apart-requires : goal.levels_apart-requires
 levels_apart-requires c = c.requires.some
 
+-- both counts are of fewer levels than a number has digits
 pub overflow_add-inside : goal.overflow_add-inside
 overflow_add-inside c =
     let few_levels : (c.levels_inside.result < 63) × (c.levels_apart.result < 63) = omega (arith, (visits_counted _ _ _ c.requires).left_few, inside_few c.args.levels c.args.to, c.levels_inside.ensures, c.levels_apart.ensures, c.requires.few) in

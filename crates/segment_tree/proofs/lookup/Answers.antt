@@ -15,6 +15,7 @@ returns-then-comes_before c =
     let none = ltb-true places.last.0 places.first.0 (sym c.comes_before.ensures ∙ c.if-comes_before.true) in
     sym (smallest_none _ _ _ (λ e m a b. omega (arith, c.requires.no_smaller e m a b, c.requires.no_larger e m a b, none)))
 
+-- the place that is tried first stands in the span, and so among the nodes
 pub overflow_add-shape : goal.overflow_add-shape
 overflow_add-shape c =
     omega (arith, c.if-slot-to.true, c.requires.inside, c.requires.tree.room, c.well_formed.0.0)

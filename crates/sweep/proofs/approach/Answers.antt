@@ -2,7 +2,6 @@
 use mathlib.Core.Path.{sym, ◌∙◌}
 use native.Mathlib.Omega.{arith}
 use borrow.Author.Tests.{ltb-false}
-use Rattle.sweep_laws.specs.Sweeping.{MateSearchable}
 use Rattle.sweep_laws.specs.Approach.{tree_room, approach_further}
 use Rattle.sweep.proofs.approach.Goals as goal
 
@@ -15,15 +14,13 @@ returns-then-larger-from-lt-WIDE_SPAN c = c.requires
 pub loop-tries-init : goal.loop-tries-init
 loop-tries-init c = λ p e m. m
 
+-- the mate can be looked for from the place that is tried on
 pub returns-then-comes_before : goal.returns-then-comes_before
-returns-then-comes_before c =
-    let searchable : let a = c.args in MateSearchable a.count a.shape.kept a.shape.width a.place.0 c.loop-tries.first.0 a.candidates.last.0 a.to a.work.now = c.loop-tries.invariant _ c.from_at-from.ensures c.requires in
-    searchable
+returns-then-comes_before c = c.loop-tries.invariant _ c.from_at-from.ensures c.requires
 
 pub waits-requires : goal.waits-requires
 waits-requires c =
-    let searchable : let a = c.args in MateSearchable a.count a.shape.kept a.shape.width a.place.0 c.loop-tries.first.0 a.candidates.last.0 a.to a.work.now = c.loop-tries.invariant _ c.from_at-from.ensures c.requires in
-    let m = searchable in
+    let m = c.loop-tries.invariant _ c.from_at-from.ensures c.requires in
     record {
       place_in_bounds = omega (arith, m.first_bounded, m.inside, m.room);
       width_in_bounds = tree_room _ _ _ _ _ _ _ _ m;
@@ -31,14 +28,11 @@ waits-requires c =
     }
 
 pub returns-then-waits : goal.returns-then-waits
-returns-then-waits c =
-    let searchable : let a = c.args in MateSearchable a.count a.shape.kept a.shape.width a.place.0 c.loop-tries.first.0 a.candidates.last.0 a.to a.work.now = c.loop-tries.invariant _ c.from_at-from.ensures c.requires in
-    searchable
+returns-then-waits c = c.loop-tries.invariant _ c.from_at-from.ensures c.requires
 
 pub overflow_add-first : goal.overflow_add-first
 overflow_add-first c =
-    let searchable : let a = c.args in MateSearchable a.count a.shape.kept a.shape.width a.place.0 c.loop-tries.first.0 a.candidates.last.0 a.to a.work.now = c.loop-tries.invariant _ c.from_at-from.ensures c.requires in
-    let m = searchable in omega (arith, m.first_bounded, m.few)
+    let m = c.loop-tries.invariant _ c.from_at-from.ensures c.requires in omega (arith, m.first_bounded, m.few)
 
 pub loop-tries-preserved : goal.loop-tries-preserved
 loop-tries-preserved c =
@@ -48,6 +42,4 @@ loop-tries-preserved c =
     (rw (← e) (c.waits.ensures c.if-waits.false))
 
 pub returns : goal.returns
-returns c =
-    let searchable : let a = c.args in MateSearchable a.count a.shape.kept a.shape.width a.place.0 c.loop-tries.first.0 a.candidates.last.0 a.to a.work.now = c.loop-tries.invariant _ c.from_at-from.ensures c.requires in
-    searchable
+returns c = c.loop-tries.invariant _ c.from_at-from.ensures c.requires
