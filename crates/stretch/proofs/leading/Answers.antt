@@ -17,6 +17,7 @@ returns-then-list-eq0 c =
 
 pub offset_bounds-other-from : goal.offset_bounds-other-from
 offset_bounds-other-from c =
+    -- the position is at most the length
     let within : c.position_of-from.result ≤ length c.args.other.now = let args = c.args in
     rw c.position_of-from.ensures (index_le (get_or args.list.now 0 0) args.other.now) in
     omega (arith, within)

@@ -9,6 +9,7 @@ use Rattle.stretch.proofs.shared_stretch.Goals as goal
 
 pub offset_bounds-first-first_dropped : goal.offset_bounds-first-first_dropped
 offset_bounds-first-first_dropped c =
+    -- what is dropped is a part of each list
     let first_within : c.dropped-first_dropped.result ≤ length c.args.first.now = rw c.dropped-first_dropped.ensures (dropped_le c.args.first.now) in
     omega (arith, first_within)
 
