@@ -3,4 +3,4 @@ use borrow.Author.Rules.{rules}
 use Rattle.run.proofs.press_known.Goals as goal
 
 pub returns-in-FullPasses : goal.returns-in-FullPasses
-returns-in-FullPasses c = rw c.press-1.given.1 c.is_known.ensures
+returns-in-FullPasses c = rw c.in-FullPasses.is c.is_known.ensures

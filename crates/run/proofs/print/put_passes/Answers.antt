@@ -10,11 +10,6 @@ use borrow.Author.Rules.{rules}
 use native.Mathlib.Omega.{arith}
 use Rattle.run.proofs.print.put_passes.Goals as goal
 
--- the lines of the first k passes stand there, whatever table the plan is of
-record Underway (tree minima highests bottoms work : List ℕ) (count : ℕ) (out₀ out : List ℕ) (at k : ℕ) : Type 0 where
-  within : k ≤ count
-  appended : (tb : Table) (ps : List ℕ) → Plan tb ps tree highests bottoms work count → Searchable ps tree minima → PassesAppended tb k out₀ at out
-
 pub loop-k-init : goal.loop-k-init
 loop-k-init c = record { within = omega arith; appended = λ tb ps p s. passes_none tb _ _ _ _ _ _ p _ }
 

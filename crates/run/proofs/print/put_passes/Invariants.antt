@@ -10,8 +10,12 @@ use borrow.Author.Rules.{rules}
 use native.Mathlib.Omega.{arith}
 use Rattle.run.proofs.print.put_passes.Given as goal
 
+-- the lines of the first k passes stand there, whatever table the plan is of
 abbrev pub invariant-loop-k : goal.invariant-loop-k
-invariant-loop-k l = Underway l.tree l.minima l.highests l.bottoms l.work l.count l.initial.out l.out l.at l.k
+invariant-loop-k l = record {
+  within : l.k ≤ l.count;
+  appended : (tb : Table) (ps : List ℕ) → Plan tb ps l.tree l.highests l.bottoms l.work l.count → Searchable ps l.tree l.minima → PassesAppended tb l.k l.initial.out l.at l.out;
+}
 
 abbrev pub decreases-loop-k : goal.decreases-loop-k
 decreases-loop-k l = l.count - l.k
