@@ -22,7 +22,7 @@ use Rattle.schedule.specs.Schedule.{places, fits, groups_by_place}
 use Rattle.schedule.specs.InWork.{job_in}
 use Rattle.schedule.specs.OfTable.{job_at, schedule_of}
 use Rattle.schedule_laws.specs.Places.{job_known, job_in_lem}
-use Rattle.schedule_laws.specs.Theorem.{places_are, schedule_groups}
+use Rattle.schedule_laws.proofs.Theorem.{places_are, schedule_groups}
 use Rattle.groups.specs.GroupPlan.{GroupPlan, same_full, same_count, flatten_part, flatten_length}
 use Rattle.lines.specs.Writing.{Appended, Printed, printed_all}
 use Rattle.group_lines.specs.Lines.{bottom_at, job_digits, GroupCells, GroupAppended}

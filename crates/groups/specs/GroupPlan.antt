@@ -12,7 +12,7 @@ use Rattle.jobs.specs.Accepted.{Accepted}
 use Rattle.matching.specs.Renamed.{full_renamed}
 use Rattle.schedule.specs.Schedule.{groups_by_place}
 use Rattle.schedule.specs.OfTable.{job_at, schedule_of, order_cells, Prepared}
-use Rattle.schedule_laws.specs.Theorem.{schedule_groups}
+use Rattle.schedule_laws.proofs.Theorem.{schedule_groups}
 use Rattle.group_sweep.specs.Grouped.{GroupsAre, GroupSwept}
 use Rattle.group_sweep.specs.declared.Grouped as declared
 use Rattle.group_sweep.specs.declared.Grouped.TheVariants as grouped

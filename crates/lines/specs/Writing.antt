@@ -1,11 +1,9 @@
 -- Bytes appended to an output, digit by digit and line by line (document 01, "The plan").
-use Rattle.std.specs.Prelude.{ℕ, ◌+◌, ◌-◌, ◌/◌, ◌%◌, ◌<◌, ◌≤◌, ◌≡◌, refl, List, [], ◌∷◌, ◌++◌, map, length, take, get_or, set, replicate}
+use Rattle.std.specs.Prelude.{ℕ, ◌+◌, ◌-◌, ◌/◌, ◌%◌, ◌<◌, ◌≤◌, ◌≡◌, refl, List, [], ◌∷◌, ◌++◌, length, take, set, replicate}
 use Rattle.std.proofs.Common.{sym, ap, ◌∙◌, append_assoc, append-nil, add-one, arith, length-set, take-suc-set, take_all, length-take-le}
 use Rattle.std.proofs.lemmas.List.{replicate-append-replicate}
-use Rattle.model.specs.Lists.{numbers, numbers_from}
 use Rattle.model.specs.Verdict.{padded}
 use Rattle.model.specs.Output.{digit, hex, pair_line, single_line, totals_line, group_count_line, refusal_bytes}
-use Rattle.laws.specs.Numbers.{numbers_at}
 
 -- the n bytes are appended at `at`: the output then holds them up to r
 pub record Appended (n at : ℕ) (bytes out : List ℕ) (r : ℕ) (out' : List ℕ) : Type 0 where
@@ -32,21 +30,7 @@ appended_then {at = at} {xs = xs} {ys = ys} {out = out} a b =
 abbrev pub digit_bytes : List ℕ
 digit_bytes = 48 ∷ 49 ∷ 50 ∷ 51 ∷ 52 ∷ 53 ∷ 54 ∷ 55 ∷ 56 ∷ 57 ∷ 65 ∷ 66 ∷ 67 ∷ 68 ∷ 69 ∷ 70 ∷ []
 
--- they are the digits, one by one
-digits_are : digit_bytes ≡ map digit (numbers 16)
-unfolding digit numbers numbers_from
-digits_are = refl
-
-digit_at : (d : ℕ) → d < 16 → get_or digit_bytes d 0 ≡ digit d
-digit_at d h = ap (λ (l : List ℕ). get_or l d 0) digits_are ∙ numbers_at digit 16 d 0 h
-
--- two, four and eight digits, the upper half first
-pub two_appended : (v : ℕ) {at a b : ℕ} {out o₁ o₂ : List ℕ} → v < 256 → Appended 1 at (get_or digit_bytes (v / 16) 0 ∷ []) out a o₁ → Appended 1 a (get_or digit_bytes (v % 16) 0 ∷ []) o₁ b o₂ → Appended 2 at (hex 2 v) out b o₂
-unfolding hex
-two_appended v h x y =
-    let upper : v / 16 % 16 ≡ v / 16 = omega arith in
-    rw (upper, ← digit_at (v / 16) (omega arith), ← digit_at (v % 16) (omega arith)) (appended_then x y)
-
+-- four and eight digits, the upper half first
 hex_four : (v : ℕ) → hex 4 v ≡ hex 2 (v / 256) ++ hex 2 (v % 256)
 unfolding hex
 hex_four v =

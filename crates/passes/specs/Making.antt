@@ -16,7 +16,7 @@ use Rattle.schedule.specs.InWork.{tree_part, window_in, Shelved, Swept}
 use Rattle.schedule.specs.OfTable.{job_at, shelf_base, schedule_of, Prepared}
 use Rattle.schedule_laws.specs.Places.{job_known, window_in_lem}
 use Rattle.schedule_laws.specs.Row.{base_next}
-use Rattle.schedule_laws.specs.Theorem.{places_are, schedule_sound, same_shelf}
+use Rattle.schedule_laws.proofs.Theorem.{places_are, schedule_sound, same_shelf}
 use Rattle.sweep_laws.specs.Sweeping.{Sweepable}
 use Rattle.passes.specs.OfTable.{swept_plan, swept_pairs, swept_visits}
 use Rattle.passes.specs.PlanPass.{Plan, TotalsOf}

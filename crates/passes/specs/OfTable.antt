@@ -26,7 +26,7 @@ use Rattle.schedule.specs.Schedule.{fits, passes_by_place}
 use Rattle.schedule.specs.InWork.{job_in, pass_of, pass_at, Swept}
 use Rattle.schedule.specs.OfTable.{job_at, schedule_of, order_cells, Prepared}
 use Rattle.schedule_laws.specs.Places.{job_known, job_in_lem}
-use Rattle.schedule_laws.specs.Theorem.{places_are, schedule_passes, schedule_length, schedule_pairs, schedule_visits}
+use Rattle.schedule_laws.proofs.Theorem.{places_are, schedule_passes, schedule_length, schedule_pairs, schedule_visits}
 use Rattle.passes.specs.Read.{opener_in, mate_in, PassCells, PairRead, SingleRead, PassRead}
 use Rattle.passes.specs.declared.Pass as declared
 use Rattle.passes.specs.declared.Pass.TheVariants as pass

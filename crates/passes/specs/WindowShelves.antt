@@ -10,7 +10,8 @@ use Rattle.matching.specs.RunningOrder.{slot_lt}
 use Rattle.schedule.specs.OfTable.{shelf_base, row_slot, row_from, row_to}
 use Rattle.schedule_laws.specs.Row.{shelf_apart, row_begins, row_ends}
 use Rattle.sweep_laws.specs.SegmentTree.{Entry, insert_entry, remove_entry, entries_in, smallest, Cleared, Inserted, Removed, ShelfSpan}
-use Rattle.sweep_laws.specs.Shelves.{shelf_in, shelf_cleared, shelf_inserted, shelf_removed, other_inserted, other_removed, shelf_found}
+use Rattle.sweep_laws.specs.Shelves.{shelf_in}
+use Rattle.sweep_laws.proofs.ShelfLaws.{shelf_cleared, shelf_inserted, shelf_removed, other_inserted, other_removed, shelf_found}
 
 module _ (tb : Table) where
   -- what the shelf of window v holds, by its own slots, in a row of so many slots

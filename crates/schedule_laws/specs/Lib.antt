@@ -1,6 +1,5 @@
--- The schedule of an accepted table defines the table's own compatibility, so the sweep over it makes the plan.
+-- The schedule of an accepted table: the places of its jobs, their slots and what they ask for.
 pub mod Places
 pub mod Asked
 pub mod Row
 pub mod ReachOrder
-pub mod Theorem

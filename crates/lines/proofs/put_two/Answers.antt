@@ -1,6 +1,5 @@
 -- `lines::put_two` meets its contract: each half of the byte is a digit.
-use Rattle.lines.specs.Writing.{two_appended}
-use borrow.Author.Rules.{rules}
+use Rattle.lines.proofs.DigitBytes.{two_appended}
 use Rattle.lines.proofs.put_two.Goals as goal
 
 pub returns : goal.returns

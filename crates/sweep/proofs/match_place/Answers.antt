@@ -2,7 +2,8 @@
 use native.Mathlib.Decide.{ℕ_discrete}
 use native.Mathlib.Omega.{arith}
 use Rattle.model.specs.Tree.{FFFF}
-use Rattle.sweep_laws.specs.Asking.{asking_removable, turn_begins, turn_room, turn_span, turn_searchable, mate_takable, mate_taking, chosen_none, chosen_one}
+use Rattle.sweep_laws.specs.Asking.{asking_removable, turn_begins, turn_room, turn_span, turn_searchable, mate_takable, mate_taking}
+use Rattle.sweep_laws.proofs.Chosen.{chosen_none, chosen_one}
 use Rattle.sweep.proofs.match_place.Goals as goal
 
 pub remove_place-requires : goal.remove_place-requires

@@ -30,8 +30,9 @@ use Rattle.schedule.specs.Schedule.{places, slot_at, from_at, to_at, due_at, bas
 use Rattle.schedule.specs.OfTable.{job_at, asking, bottom_depth, reach_order, due, shelf_base, row_slot, row_from, row_to, schedule_of}
 use Rattle.schedule_laws.specs.Places.{job_known, job_once, running_list, later_depth, theorem_6_by_place}
 use Rattle.schedule_laws.specs.Asked.{asked_slot, asked_bound, asks_itself}
-use Rattle.schedule_laws.specs.Row.{shelf_within, row_lt, row_window, row_once, row_asked}
+use Rattle.schedule_laws.specs.Row.{shelf_within, row_lt}
 use Rattle.schedule_laws.specs.ReachOrder.{reach_at, reach_at_lem, reach_length, reach_distinct, reached_deep, due_within, due_later, reached_in_time}
+use Rattle.schedule_laws.proofs.RowWindows.{row_window, row_once, row_asked}
 
 -- in one window two share exactly if the later is in the span and deep enough
 regroup : (a b c w share : Bool) → (w ≡ true → share ≡ (c && b)) → (true && a && w && share) ≡ ((a && b) && (w && c))

@@ -1,0 +1,2 @@
+-- Laws of the digits that are written.
+pub mod DigitBytes
