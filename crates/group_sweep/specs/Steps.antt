@@ -17,7 +17,7 @@ use Rattle.laws.specs.Firsts.{first_none}
 use Rattle.schedule.specs.Schedule.{Schedule, to_at, due_at, base_at, size_at, fits, groups_by_place}
 use Rattle.schedule.specs.InWork.{to_part, mate_part, tree_part}
 use Rattle.sweep_laws.specs.WorkCells.{FrontKept, front_both, front_less}
-use Rattle.sweep_laws.specs.Sweeping.{free_at, remaining, OnShelves, Sweeping, UpTo, Asking, ReachedAt}
+use Rattle.sweep_laws.specs.Sweeping.{free_at, remaining, OnShelves, Sweeping, UpTo, ReachedAt}
 use Rattle.sweep_laws.specs.Reaching.{free_kept, shelves_kept}
 use Rattle.sweep_laws.specs.Asking.{asks_free}
 use Rattle.sweep_laws.specs.MadeLaws.{remaining_free, remaining_taken, remaining_same}

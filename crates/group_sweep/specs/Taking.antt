@@ -2,7 +2,6 @@
 use Rattle.std.specs.Prelude.{ℕ, suc, pred, ◌+◌, ◌-◌, ◌*◌, ◌<◌, ◌≤◌, ◌≡◌, ◌≢◌, true, false, List, [], ◌∷◌, ◌++◌, length, get_or, set, take}
 use Rattle.std.proofs.Math.Path.{refl}
 use Rattle.std.proofs.Common.{sym, ap, ◌∙◌, true≢false, append_assoc, append-nil, arith, add-one, length-append, take-suc-set}
-use Rattle.std.proofs.Math.Option.{none}
 use Rattle.model.specs.Lists.{without, without_all, first_passing}
 use Rattle.model.specs.Tree.{FFFF}
 use Rattle.laws.specs.Lists.{Distinct, find_some, pairwise_imply}

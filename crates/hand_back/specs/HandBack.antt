@@ -104,6 +104,7 @@ module _ (tb : Table) (a : Accepted tb) where
       earlier p q (inl n) = n
       earlier p q (inr (here e)) = absurd (p e)
       earlier p q (inr (there (here e))) = absurd (q e)
+      earlier p q (inr (there (there m))) = elim m [ ]
 
   one_written : (f : ℕ → ℕ) (cells : List ℕ) (i x : ℕ) (l : List ℕ) → i < length cells → x ≡ f i → ((z : ℕ) → Mem z l → get_or cells z 0 ≡ f z)
       → (z : ℕ) → Mem z (l ++ i ∷ []) → get_or (set cells i x) z 0 ≡ f z
@@ -114,6 +115,7 @@ module _ (tb : Table) (a : Accepted tb) where
     where
       only : z ≢ i → Mem z (i ∷ []) → ⊥
       only p (here e) = p e
+      only p (there m) = elim m [ ]
 
   -- pass k more
   module _ (k : ℕ) (h : k < length (passes tb)) where

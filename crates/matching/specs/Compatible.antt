@@ -46,7 +46,7 @@ module _ (tb : Table) where
     one_in = one_in;
     other_in = other_in;
     differ = r.differ;
-    fits = true_compatible p.one p.other (T_true (not (solo tb p.one)) r.one_not_solo) (T_true (not (solo tb p.other)) r.other_not_solo) (T_true (same_window tb p.one p.other) r.same_window_lem) (T_true (shares tb p.one p.other) r.share);
+    fits = true_compatible p.one p.other (T_true (not (solo tb p.one)) r.one_not_solo) (T_true (not (solo tb p.other)) r.other_not_solo) (T_true (same_window tb p.one p.other) r.same_window) (T_true (shares tb p.one p.other) r.share);
   }
 
   -- they are compatible if both ask, are in one window and share: a job 0-0 shares with none

@@ -303,7 +303,7 @@ module _ (tb : Table) where
               differ = λ e. omega arith;
               one_not_solo = true_T c.0;
               other_not_solo = true_T c.1;
-              same_window_lem = true_T c.2;
+              same_window = true_T c.2;
               share = true_T c.3;
             }
 

@@ -355,7 +355,7 @@ keeps tb i j one other differ a b c d = record {
   differ = unequal i j differ;
   one_not_solo = a;
   other_not_solo = b;
-  same_window_lem = c;
+  same_window = c;
   share = d;
 }
 

@@ -27,7 +27,7 @@ pub record Rules (tb : Table) (p : Pair) : Type 0 where
   pub differ : p.one ≢ p.other
   pub one_not_solo : T (not (solo tb p.one))
   pub other_not_solo : T (not (solo tb p.other))
-  pub same_window_lem : T (same_window tb p.one p.other)
+  pub same_window : T (same_window tb p.one p.other)
   pub share : T (shares tb p.one p.other)
 
 -- a rival plan, which is any matching: pairs that keep the rules, no job in two of them

@@ -102,7 +102,7 @@ module _ (bytes : List ℕ) (at line : ℕ) (tb : Table) (own : List ℕ) (ended
         room = o.room;
         right = o.right;
         next = frame_read bytes at line tb own ended f e ∙ rw (o.accepts, o.is);
-        ahead = frame_lines bytes at line f e ∙ rw o.is;
+        ahead = frame_lines bytes at line f e ∙ rw (o.is, o.is);
       }
   step_by_frame (step.Job t b mark) o = (job_step (job_of t.0 b.0 mark) t.0 b.0 mark 0 11 (is_marked t.0 b.0 mark o.1) o.0, o.1)
   step_by_frame (step.Windowed t b v) o = job_step (window_frame t.0 b.0 v.0) t.0 b.0 0 v.0 13 (is_windowed t.0 b.0 v.0) o

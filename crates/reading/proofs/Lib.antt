@@ -1,0 +1,2 @@
+-- What the loop over the lines keeps.
+pub mod Reading

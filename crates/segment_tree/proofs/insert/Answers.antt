@@ -1,0 +1,12 @@
+-- On the way up every inner node is right but the one at hand, which is right once it takes the place.
+use Rattle.sweep_laws.specs.Nodes.{inserting_slot, inserting_step, inserting_done}
+use Rattle.segment_tree.proofs.insert.Goals as goal
+
+pub loop-node-init : goal.loop-node-init
+loop-node-init c = inserting_slot _ _ _ _ _ c.requires
+
+pub loop-node-preserved : goal.loop-node-preserved
+loop-node-preserved c = inserting_step _ _ _ _ _ _ _ c.loop-node-test.true c.smaller.ensures c.loop-node.invariant
+
+pub returns : goal.returns
+returns c = inserting_done _ _ _ _ _ _ _ c.loop-node-test.false c.requires c.loop-node.invariant

@@ -1,0 +1,15 @@
+-- On the way up the nodes that are left, with the places taken in so far, have the smallest place of the span.
+use Rattle.sweep_laws.specs.NodeSpans.{narrowed_first, narrowed_parents}
+use Rattle.segment_tree.proofs.narrow.Goals as goal
+
+pub loop-left-init : goal.loop-left-init
+loop-left-init c = narrowed_first _ _ _ _ _ c.requires.from_kept c.requires.order c.requires.within
+
+pub loop-left-preserved : goal.loop-left-preserved
+loop-left-preserved c = rw (c.smaller-least.ensures, c.smaller.ensures) (narrowed_parents _ _ _ c.requires.tree _ _ _ _ _ c.if-shape-left.true c.loop-left-test.true c.loop-left.invariant)
+
+pub returns-else-shape-left : goal.returns-else-shape-left
+returns-else-shape-left c = c.loop-left.invariant
+
+pub returns-after-loop-left : goal.returns-after-loop-left
+returns-after-loop-left c = c.loop-left.invariant

@@ -1,0 +1,10 @@
+-- On the way from `next` to `due` the places reached so far wait in the tree, none of them after the last.
+use Prim.Native.Nat.{◌-◌}
+use Rattle.sweep_laws.specs.Reaching.{ReachingTo}
+use Rattle.sweep.proofs.insert_reached.Given as goal
+
+abbrev pub invariant-loop-at : goal.invariant-loop-at
+invariant-loop-at l = ReachingTo l.count l.shape.kept l.shape.width l.initial.at l.initial.last.0 l.due l.initial.work l.at l.last.0 l.work
+
+abbrev pub decreases-loop-at : goal.decreases-loop-at
+decreases-loop-at l = l.due - l.at
