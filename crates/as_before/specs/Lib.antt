@@ -1,3 +1,2 @@
--- That every table read before 2026-04 is read as it was.
+-- The reading before 2026-04.
 pub mod LayoutsFirst
-pub mod AsBefore

@@ -1,2 +1,2 @@
--- That U and L are the ends of the shared stretch.
+-- The ends of the shared stretch, as U and L.
 pub mod Ends

@@ -1,23 +1,19 @@
--- The earlier job gets the partner (document 02, 2026-14), of the plan as it stands in the first M cells of a partner buffer. Any plan of which it holds pairs the same jobs,
--- and so makes as many passes.
+-- The earlier job gets the partner (document 02, 2026-14), of the pairs that the partner buffer holds.
 use Prim.Native.Nat.{ℕ, ◌≤◌, ◌<◌}
 use Rattle.std.specs.Prelude.{◌≡◌, false}
-use Rattle.std.proofs.Common.{sym, ◌∙◌, arith}
+use Rattle.std.proofs.Common.{sym, ◌∙◌}
 use Rattle.std.proofs.Math.Path.{ap}
 use Rattle.std.proofs.Math.Logic.{⊎_elim}
 use Rattle.std.proofs.Math.Bool.{true, not}
-use Rattle.std.proofs.Math.Option.{none, some}
-use mathlib.Core.List.{List, ◌++◌, Memᴰ as Mem}
-use Rattle.model.specs.Lists.{numbers}
+use Rattle.std.proofs.Math.Option.{some}
+use mathlib.Core.List.{List, Memᴰ as Mem}
 use Rattle.model.specs.Jobs.{Table, jobs, job_limit, highest_depth}
 use Rattle.model.specs.Order.{earlier, running_order}
 use Rattle.model.specs.Greedy.{compatible, passes}
-use Rattle.model.specs.Rival.{Pair, Rules, Rival, pairs_of, in_pair, singles_of, passes_of, paired_in_one, first_difference, EarlierPaired, EarlierJobsPaired}
+use Rattle.model.specs.Rival.{Pair, Rules, Rival, pairs_of, in_pair, paired_in_one, first_difference}
 use Rattle.model.specs.Planning.{partners}
-use Rattle.laws.specs.Booleans.{answers, one_answer, xor_symmetric, xor_true, true_xor, xor_false}
-use Rattle.laws.specs.Lists.{mem_all, all_imply, found_or_none, find_some, find_none, find_agree}
-use Rattle.laws.specs.Numbers.{numbers_mem}
-use Rattle.laws.specs.Counting.{count_agree}
+use Rattle.laws.specs.Booleans.{answers, one_answer, xor_symmetric, xor_true, true_xor}
+use Rattle.laws.specs.Lists.{mem_all, all_imply, find_some, find_agree}
 use Rattle.laws.specs.Sorting.{Before, none_before_found}
 use Rattle.tree_laws.specs.WellFormed.{Tree}
 use Rattle.tree_laws.specs.Sharing.{Downward}
@@ -27,9 +23,7 @@ use Rattle.matching.specs.Passes.{pairs_in, run_mem, paired_vertex, greedy_run}
 use Rattle.matching.specs.EarlierPaired.{run_earlier}
 use Rattle.matching.specs.RunningOrder.{earlier_order, running_mem, mem_running, running_sorted, running_falls}
 use Rattle.matching.specs.Compatible.{rules_fit, compatible_eliminates}
-use Rattle.matching.specs.Partners.{our_pairs, our_paired}
-use Rattle.matching.specs.Singles.{singles_and_pairs, rival_passes, our_passes}
-use Rattle.matching.specs.MaximumAtEveryCut.{pairs_front, fewest_passes}
+use Rattle.matching.specs.Partners.{our_paired}
 
 -- it does not matter which plan is named first
 pub difference_symmetric : (tb : Table) (ps qs : List Pair) → first_difference tb ps qs ≡ first_difference tb qs ps
@@ -77,39 +71,3 @@ module _ (tb : Table) (t : Tree tb.parents) (down : (j : ℕ) → j < jobs tb �
       absurd (one_answer q.before
       (none_before_found (λ (j : ℕ). j < jobs tb) (earlier tb) (earlier_order tb) (paired_in_one our rival) (running_sorted tb) found in_order (true_xor (in_pair our i) (in_pair rival i) (q.rival_leaves ∙ ap not (sym ours))))))
       (answers (in_pair our j))
-
-  module _ (plan : List Pair) (r : Rival tb plan) (earlier_paired : EarlierPaired tb plan) where
-    -- a plan of which the same holds pairs the same jobs
-    pub same_paired : (j : ℕ) → j < jobs tb → in_pair our j ≡ in_pair plan j
-    unfolding first_difference paired_in_one
-    same_paired j h = ⊎_elim
-        (λ (f : (d : ℕ) × (first_difference tb plan our ≡ some d)).
-        let d : ℕ = f.0 in
-        let differs = (find_some (paired_in_one plan our) (running_order tb) f.1).1 in
-        absurd (one_answer (ours_earlier plan r d (difference_symmetric tb our plan ∙ f.1))
-        (xor_true (in_pair plan d) (in_pair our d) differs ∙ ap not (earlier_paired our (our_pairs tb small) d f.1))))
-        (λ (e : first_difference tb plan our ≡ none). xor_false (in_pair plan j) (in_pair our j) (find_none (paired_in_one plan our) (mem_running tb j h) e))
-        (found_or_none (first_difference tb plan our))
-
-    -- so it has as many singles
-    same_singles : singles_of tb our ≡ singles_of tb plan
-    unfolding singles_of
-    same_singles = count_agree (λ (j : ℕ). not (in_pair our j)) (λ (j : ℕ). not (in_pair plan j)) (numbers (jobs tb))
-        (mem_all (λ (j : ℕ). not (in_pair our j) ≡ not (in_pair plan j)) (numbers (jobs tb)) (λ j m. ap not (same_paired j (numbers_mem (jobs tb) m))))
-
-    -- document 02: and no rival makes fewer passes
-    pub earlier_fewest : (rival : List Pair) → Rival tb rival → passes_of tb plan ≤ passes_of tb rival
-    earlier_fewest rival s = omega (
-      arith,
-      same_singles,
-      singles_and_pairs tb plan r,
-      singles_and_pairs tb our (our_pairs tb small),
-      rival_passes tb plan r,
-      rival_passes tb our (our_pairs tb small),
-      our_passes tb small,
-      fewest_passes tb t down small rival s,
-    )
-
-  -- document 02: both, whatever stands behind the first M cells
-  pub earlier_jobs_paired : (rest : List ℕ) → EarlierJobsPaired tb (partners tb ++ rest)
-  earlier_jobs_paired rest = record { ours = rw (pairs_front tb rest) ours_earlier; fewest = earlier_fewest }

@@ -12,9 +12,9 @@ pub mod Compatible
 pub mod OneWindow
 pub mod Partners
 pub mod PartnersShare
+pub mod PartnersFront
 pub mod BareSheet
 pub mod Demand
 pub mod Singles
-pub mod MaximumAtEveryCut
 pub mod EarlierJobs
 pub mod FullGroupings

@@ -1,20 +1,18 @@
 -- The jobs in no pair of a rival plan, and its passes (document 01, "Rival plans and the cut"). Each pair takes two jobs that no other pair has, so the singles are what is
 -- left of M after two for each pair.
-use Prim.Native.Nat.{ℕ, suc, ◌+◌, ◌*◌, ◌≤◌, ◌<◌}
+use Prim.Native.Nat.{ℕ, suc, ◌+◌, ◌*◌, ◌<◌}
 use Rattle.std.specs.Prelude.{◌≡◌, refl, ◌≢◌, Bool, true, false, not, ◌||◌, List, [], ◌∷◌, length, eqb}
 use Rattle.std.proofs.Common.{sym, ◌∙◌, arith}
 use Rattle.std.proofs.Math.Path.{ap}
 use Rattle.std.proofs.Math.Bool.{cond, or-false}
 use borrow.Author.Tests.{eq-eqb, ne_eqb}
 use Rattle.model.specs.Lists.{numbers, count_where, any_of, All, AllPairs}
-use Rattle.model.specs.Jobs.{Table, jobs, job_limit}
-use Rattle.model.specs.Rival.{Pair, NoCommonJob, Rules, Rival, pairs_of, in_pair, singles_of, passes_of}
-use Rattle.model.specs.Planning.{partners, pairs, singles}
+use Rattle.model.specs.Jobs.{Table, jobs}
+use Rattle.model.specs.Rival.{Pair, NoCommonJob, Rules, Rival, in_pair, singles_of, passes_of}
 use Rattle.laws.specs.Numbers.{mem_numbers, numbers_distinct, numbers_length}
 use Rattle.laws.specs.Lists.{all_imply}
 use Rattle.laws.specs.Counting.{count_at, count_length_all}
 use Rattle.matching.specs.Matchings.{apart_paired}
-use Rattle.matching.specs.Partners.{jobs_counted, our_pairs, our_pairs_length}
 
 -- the job is neither of the pair
 abbrev Outside : ℕ → Pair → Type 0
@@ -91,12 +89,3 @@ singles_and_pairs tb ps rival = counted ps rival.keep rival.once
 pub rival_passes : (tb : Table) (ps : List Pair) → Rival tb ps → passes_of tb ps + length ps ≡ jobs tb
 unfolding passes_of
 rival_passes tb ps rival = omega (arith, singles_and_pairs tb ps rival)
-
--- our singles are the jobs that the partner buffer leaves in no pair
-pub our_singles : (tb : Table) → jobs tb ≤ job_limit → singles tb ≡ singles_of tb (pairs_of (jobs tb) (partners tb))
-our_singles tb small = omega (arith, jobs_counted tb, our_pairs_length tb small, singles_and_pairs tb (pairs_of (jobs tb) (partners tb)) (our_pairs tb small))
-
--- and our passes are the pairs and singles given back
-pub our_passes : (tb : Table) → jobs tb ≤ job_limit → passes_of tb (pairs_of (jobs tb) (partners tb)) ≡ pairs tb + singles tb
-unfolding passes_of
-our_passes tb small = omega (arith, our_pairs_length tb small, our_singles tb small)

@@ -16,8 +16,8 @@ use Rattle.jobs.specs.Accepted.{Accepted, Lent, table_accepted}
 use Rattle.jobs.specs.Checks.{check_verdict}
 use Rattle.jobs.specs.declared.JobCheck.{JobCheck}
 use Rattle.jobs.specs.declared.JobCheck.TheVariants as check
-use Rattle.matching.specs.MaximumAtEveryCut.{our_plan_maximum}
-use Rattle.matching.specs.EarlierJobs.{earlier_jobs_paired}
+use Rattle.matching.proofs.MaximumAtEveryCut.{our_plan_maximum}
+use Rattle.matching.proofs.EarlierJobsPaired.{earlier_jobs_paired}
 use Rattle.sweep_laws.specs.Room.{sweep_room}
 use Rattle.passes.specs.Making.{Roomy}
 use Rattle.passes.specs.PlanPass.{TotalsOf}

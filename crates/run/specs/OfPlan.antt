@@ -25,7 +25,7 @@ use Rattle.laws.specs.Numbers.{numbers_before}
 use Rattle.laws.specs.Lists.{all_mem, at_all}
 use Rattle.matching.specs.Passes.{Run, done, matched, alone, greedy_run}
 use Rattle.matching.specs.Partners.{passes_places, partner_cell}
-use Rattle.matching.specs.MaximumAtEveryCut.{partners_front}
+use Rattle.matching.specs.PartnersFront.{partners_front}
 use Rattle.jobs.specs.Accepted.{Accepted}
 use Rattle.run.specs.Sound.{read_table_lem}
 use Rattle.passes.specs.OfTable.{plan_pass, pass_among}
