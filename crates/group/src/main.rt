@@ -2,8 +2,13 @@
 // the number of lanes.
 #![tactic(auto)]
 
-use libc::{STDIN_FILENO, STDOUT_FILENO};
 use model::LaneCount;
+use std::env::FillError;
+use std::io::{self, Read, Write};
+use std::rt::Env;
+
+// Bytes of input that are read at most.
+const LONGEST: u64 = 65536;
 
 // The number that a digit stands for; anything else counts as 0, which no press has for its lanes.
 fn digit_value(byte: u8) -> u8 {
@@ -14,20 +19,22 @@ fn digit_value(byte: u8) -> u8 {
 }
 
 // The number of lanes that the one argument names, in one digit.
-fn lanes_named() -> LaneCount {
+fn lanes_named(env: &impl Env) -> LaneCount {
     let mut word = [0u8; 1];
-    let length = os::arg(1, &mut word);
-    if os::arg_count() != 2 || length != 1 {
+    let Ok(1) = env.arg(1, &mut word) else {
         return LaneCount(0);
-    }
+    };
+    let Err(FillError::NotPresent) = env.arg(2, &mut [0u8; 1]) else {
+        return LaneCount(0);
+    };
     LaneCount(digit_value(word[0]) as usize)
 }
 
-fn main() {
-    let lanes = lanes_named();
-    let mut table = io::large_buffer();
-    let length = io::read_full(STDIN_FILENO, &mut table);
+fn main(rt: HostRuntime) -> io::Result<()> {
+    let lanes = lanes_named(&rt);
+    let mut table = Vec::new(rt.alloc());
+    rt.reader().take(LONGEST).read_to_end(&mut table)?;
     let mut groups = [0u8; run::OUTPUT];
-    let printed = run::group_run(&table[..length], &mut groups, lanes);
-    io::write_all(STDOUT_FILENO, &groups[..printed]);
+    let printed = run::group_run(&table, &mut groups, lanes);
+    io::writer(&rt).write_all(&groups[..printed])
 }

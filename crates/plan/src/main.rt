@@ -1,12 +1,15 @@
 // The program: reads a table from standard input, at most 65,536 bytes of it, and writes its plan to standard output.
 #![tactic(auto)]
 
-use libc::{STDIN_FILENO, STDOUT_FILENO};
+use std::io::{self, Read, Write};
 
-fn main() {
-    let mut table = io::large_buffer();
-    let length = io::read_full(STDIN_FILENO, &mut table);
+// Bytes of input that are read at most.
+const LONGEST: u64 = 65536;
+
+fn main(rt: HostRuntime) -> io::Result<()> {
+    let mut table = Vec::new(rt.alloc());
+    rt.reader().take(LONGEST).read_to_end(&mut table)?;
     let mut plan = [0u8; run::OUTPUT];
-    let printed = run::whole_run(&table[..length], &mut plan);
-    io::write_all(STDOUT_FILENO, &plan[..printed]);
+    let printed = run::whole_run(&table, &mut plan);
+    io::writer(&rt).write_all(&plan[..printed])
 }
