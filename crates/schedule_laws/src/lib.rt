@@ -1,2 +1,2 @@
-// Laws of the schedule of a table, in specs/; there is no code here.
+// Laws of the schedule of a table, in specs/ and proofs/; there is no code here.
 #![tactic(auto)]
