@@ -23,32 +23,8 @@ use Rattle.model.specs.Output.{digit, hex, line, reading_bytes, run_bytes}
 use Rattle.laws.specs.Booleans.{or_cases, or_false_both}
 use Rattle.laws.specs.Numbers.{range_more, range_agree}
 use Rattle.laws.specs.Verdicts.{placed_accepted, then_accepted, then_append, then_last, not_refused, accepted_reading}
+use Rattle.as_before.specs.OldTables.{is_layout, layouts_first, has_window}
 use Rattle.as_before.specs.LayoutsFirst as Former
-
--- ---- layouts first, and no windows
-
--- a line that holds a layout
-unfoldable pub is_layout : Option Frame → Bool
-is_layout none = false
-is_layout (some (layout_frame p)) = true
-is_layout (some (job_frame t b)) = false
-is_layout (some (solo_frame t b)) = false
-is_layout (some (window_frame t b v)) = false
-is_layout (some (end_frame n m)) = false
-
--- one layout or more, and none behind them
-unfoldable pub layouts_first : List (Option Frame) → Bool
-layouts_first [] = false
-layouts_first (o ∷ os) = is_layout o && (layouts_first os || not (any_of is_layout os))
-
--- a line 05
-unfoldable pub has_window : Option Frame → Bool
-has_window none = false
-has_window (some (layout_frame p)) = false
-has_window (some (job_frame t b)) = false
-has_window (some (solo_frame t b)) = false
-has_window (some (window_frame t b v)) = true
-has_window (some (end_frame n m)) = false
 
 -- ---- there are such tables
 

@@ -1,5 +1,5 @@
 -- The groups of a table are a full grouping where each of them is full, and where one is not there is no full grouping, however it may be made (document 02, 2026-07).
-use Prim.Native.Nat.{ℕ, zero, suc, pred, ◌+◌, ◌<◌}
+use Prim.Native.Nat.{ℕ, zero, suc, pred, ◌<◌}
 use Rattle.std.proofs.Math.Path.{◌≡◌, sym, ap}
 use Rattle.std.specs.Prelude.{refl, ◌≢◌, true, false, cond, not, length, eqb}
 use Rattle.std.proofs.Common.{◌∙◌, eq-eqb, ne_eqb, eqb-true}
@@ -33,7 +33,7 @@ use Rattle.tree_laws.specs.Sharing.{Downward, On, on_own, shares_meet, highest_o
 use Rattle.matching.specs.Exchange.{Falls}
 use Rattle.matching.specs.Compatible.{window_same, same_window_lem, compatible_true, true_compatible, compatible_eliminates}
 use Rattle.matching.specs.RunningOrder.{running_mem, mem_running, running_count, running_falls, running_distinct}
-use Rattle.model.specs.Grouping.{Group, FullGrouping, grouping, all_full, groups_of}
+use Rattle.model.specs.Grouping.{Group, FullGrouping, all_full, groups_of}
 use Rattle.laws.specs.Firsts.{first_mem, others_mem, others_pairwise}
 use Rattle.matching.specs.Grouping.{GroupRun, done, opened, grouping_run, run_count, Labelled, grouping_full}
 

@@ -1,7 +1,7 @@
 -- The grouping rule fills every group exactly if the vertices can be put into groups of g that fit two by two (000, section 4.2; 003, section 4), for any test of two
 -- vertices with strong elimination along an order. The tree enters nowhere. 003 claims more, the most groups where not all can be filled, and that fails.
 -- Assumes the laws of `StrongElimination`.
-use Prim.Native.Nat.{ℕ, zero, suc, ◌+◌, ◌≤◌}
+use Prim.Native.Nat.{ℕ, zero, suc, ◌≤◌}
 use Rattle.std.specs.Prelude.{◌≡◌, ◌≢◌, Bool, true, cond, length, eqb}
 use Rattle.std.proofs.Math.Path.{refl, ap}
 use Rattle.std.proofs.Common.{sym, ◌∙◌, ⊎_elim, arith, eq-eqb, ne_eqb, eqb-true}

@@ -10,7 +10,7 @@ use Rattle.std.proofs.Math.Dec.{eqb_refl, eqb-suc-suc, eqb-suc-zero}
 use Rattle.model.specs.Lists.{numbers_from, numbers, elem, index_of, last_d, any_of, all_of, select, count_where, find, total, insert_by, sort_by, All, without, without_all, first_passing}
 use Rattle.model.specs.Verdict.{Verdict, accepted, refused}
 use Rattle.model.specs.Tree.{FFFF, right_parent, layouts_from, tree_verdict, ascend, ancestors, ancestor_or_self, depth, children, or_self, leaves_within, leaves, first_leaf, last_leaf}
-use Rattle.model.specs.Jobs.{Table, solo, window, same_window, up_to, path_from, path, own_path, bare, asks, highest, highest_depth, shares, shared_layouts, highest_shared, deepest_shared, bottom_leaf, job_verdict}
+use Rattle.model.specs.Jobs.{Table, solo, same_window, up_to, path_from, path, own_path, bare, asks, highest, highest_depth, shares, shared_layouts, highest_shared, deepest_shared, bottom_leaf, job_verdict}
 use Rattle.model.specs.Order.{earlier, running_order, place, leftward, window_jobs, window_size, slot_order, slot}
 use Rattle.model.specs.Greedy.{Pass, pair, single, greedy_step, greedy_steps, greedy, compatible, passes}
 use Rattle.model.specs.Grouping.{Group, FullGrouping, group_step, group_steps, grouping, all_full, groups_of, common_layouts, deepest_common}

@@ -1,7 +1,6 @@
 -- A pass read off the work cells: what has to stand there, and what is read.
 use Rattle.std.specs.Prelude.{ℕ, ◌+◌, ◌*◌, ◌<◌, ◌≡◌, ◌≢◌, List, length, get_or}
 use Rattle.model.specs.Tree.{FFFF}
-use Rattle.model.specs.Greedy.{Pass}
 use Rattle.ancestry.specs.Ancestry.{LowestCommonAncestor}
 use Rattle.schedule.specs.InWork.{job_in, mate_part, opener_part}
 use Rattle.passes.specs.declared.Pass as declared

@@ -6,7 +6,6 @@ use mathlib.Core.List.{List, [], ◌∷◌, Memᴰ as Mem}
 use Rattle.model.specs.Lists.{select, insert_by}
 use Rattle.model.specs.Tree.{FFFF}
 use Rattle.model.specs.Jobs.{job_limit}
-use Rattle.model.specs.Visits.{levels}
 
 -- the places by slot, FFFF where a slot holds none
 unfoldable pub slots : ℕ → List ℕ → List ℕ

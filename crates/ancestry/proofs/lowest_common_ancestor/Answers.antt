@@ -4,7 +4,6 @@ use Rattle.ancestry.proofs.Common.{smallest_common}
 use Rattle.ancestry.specs.Room.{stride_small}
 use Rattle.ancestry.proofs.Rows.{leaf_read}
 use native.Mathlib.Omega.{arith}
-use borrow.Author.Rules.{rules}
 use Rattle.ancestry.proofs.lowest_common_ancestor.Goals as goal
 
 pub first_leaf-first-requires : goal.first_leaf-first-requires

@@ -1,12 +1,9 @@
 -- The loop has set all rows up to one, and goes on as long as the next has blocks shorter than a row.
-use Prim.Native.Nat.{ℕ, suc, ◌-◌, ◌<◌}
+use Prim.Native.Nat.{ℕ, ◌-◌, ◌<◌}
 use mathlib.Core.Path.{◌≡◌}
 use lib.ListN.{length}
 use Rattle.ancestry.specs.SparseTable.{stride_of}
-use Rattle.ancestry.specs.Room.{stride_small}
-use Rattle.ancestry.proofs.Rows.{Rows, rows_first, next_room, rows_more, rows_all}
-use borrow.Author.Rules.{rules}
-use native.Mathlib.Omega.{arith}
+use Rattle.ancestry.proofs.Rows.{Rows}
 use Rattle.ancestry.proofs.set_minima.Given as goal
 
 abbrev pub invariant-loop-half : goal.invariant-loop-half

@@ -1,11 +1,10 @@
 -- Each turn takes the parent of one layout more in, at its first leaf.
-use Prim.Native.Nat.{◌-◌, ◌≤◌}
+use Prim.Native.Nat.{◌≤◌}
 use mathlib.Core.Path.{◌≡◌, refl}
-use lib.ListN.{length, length-set}
+use lib.ListN.{length-set}
 use Rattle.model.specs.Tree.{first_leaf, last_leaf}
 use Rattle.tree_laws.specs.Leaves.{last_lt}
-use Rattle.ancestry.proofs.Rows.{ParentsTo, leaf_read, parents_none, parent_inside, parents_more, parents_all}
-use borrow.Author.Rules.{rules}
+use Rattle.ancestry.proofs.Rows.{leaf_read, parents_none, parent_inside, parents_more, parents_all}
 use native.Mathlib.Omega.{arith}
 use Rattle.ancestry.proofs.set_parents.Goals as goal
 

@@ -1,8 +1,5 @@
 -- Each turn sets one cell more, from the row before, which stays as it was.
-use Prim.Native.Nat.{◌-◌, ◌≤◌}
-use Rattle.ancestry.specs.SparseTable.{RowSet}
 use Rattle.ancestry.proofs.Rows.{row_none, row_more, row_all}
-use borrow.Author.Rules.{rules}
 use native.Mathlib.Omega.{arith}
 use Rattle.ancestry.proofs.set_row.Goals as goal
 

@@ -1,7 +1,6 @@
 -- `smaller` meets its contract: the test tells which of the two is the smaller.
 use mathlib.Core.Path.{sym, ◌∙◌}
 use native.Mathlib.Omega.{arith}
-use borrow.Author.Rules.{rules}
 use borrow.Author.Tests.{ltb-true, ltb-false}
 use Rattle.ancestry.proofs.smaller.Goals as goal
 

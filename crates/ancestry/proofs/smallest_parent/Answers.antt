@@ -4,7 +4,6 @@ use mathlib.Core.Path.{◌∙◌}
 use lib.Count.{leading_le}
 use Rattle.ancestry.proofs.Rows.{bits_small, block_is, block_fits, row_fits, two_blocks}
 use native.Mathlib.Omega.{arith}
-use borrow.Author.Rules.{rules}
 use Rattle.ancestry.proofs.smallest_parent.Goals as goal
 
 pub overflow_sub-bits : goal.overflow_sub-bits

@@ -1,8 +1,5 @@
 -- `buffers::clear_bytes` meets its contract: the cells passed hold the value, the others are as they were.
-use borrow.Author.Rules.{rules}
-use Prim.Native.Nat.{◌-◌}
-use lib.ListN.{length}
-use Rattle.buffers.proofs.Filled.{FilledTo, filled_none, filled_more, filled_all}
+use Rattle.buffers.proofs.Filled.{filled_none, filled_more, filled_all}
 use Rattle.buffers.proofs.clear_bytes.Goals as goal
 
 pub loop-i-init : goal.loop-i-init

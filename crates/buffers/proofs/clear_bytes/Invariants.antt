@@ -1,8 +1,7 @@
 -- `buffers::clear_bytes` meets its contract: the cells passed hold the value, the others are as they were.
-use borrow.Author.Rules.{rules}
 use Prim.Native.Nat.{◌-◌}
 use lib.ListN.{length}
-use Rattle.buffers.proofs.Filled.{FilledTo, filled_none, filled_more, filled_all}
+use Rattle.buffers.proofs.Filled.{FilledTo}
 use Rattle.buffers.proofs.clear_bytes.Given as goal
 
 abbrev pub invariant-loop-i : goal.invariant-loop-i

@@ -1,13 +1,11 @@
 -- The places passed, from the last up, have their gaps, and the nearest place of each window is known.
-use Prim.Native.Nat.{◌+◌, ◌-◌, ◌<◌, ◌≤◌}
+use Prim.Native.Nat.{◌+◌, ◌-◌, ◌<◌}
 use mathlib.Core.Path.{◌≡◌, refl, sym}
 use native.Mathlib.Omega.{arith}
 use lib.ListN.{length}
-use borrow.Author.Rules.{rules}
 use Rattle.model.specs.Jobs.{window_limit}
 use Rattle.schedule.specs.InWork.{window_in}
-use Rattle.gaps.specs.Gaps.{GapsFrom}
-use Rattle.gaps.specs.GapLaws.{NearestFrom, gaps_none, nearest_none, nearest_more, gaps_more}
+use Rattle.gaps.specs.GapLaws.{gaps_none, nearest_none, nearest_more, gaps_more}
 use Rattle.gaps.proofs.set_gaps.Goals as goal
 
 pub loop-p-init : goal.loop-p-init

@@ -1,5 +1,4 @@
 -- Both ways set gaps that lead no further than the next place of the window.
-use borrow.Author.Rules.{rules}
 use Rattle.gaps.proofs.set_near.Goals as goal
 
 pub set_gaps-requires : goal.set_gaps-requires

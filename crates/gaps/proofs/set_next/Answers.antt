@@ -1,9 +1,6 @@
 -- The places passed have gaps of 1, and the last one of 0.
-use Prim.Native.Nat.{◌-◌}
-use mathlib.Core.List.{[]}
 use native.Mathlib.Omega.{arith}
-use lib.ListN.{length}
-use Rattle.gaps.specs.GapLaws.{OnesTo, ones_none, ones_more, ones_all, ones_empty}
+use Rattle.gaps.specs.GapLaws.{ones_none, ones_more, ones_all, ones_empty}
 use Rattle.gaps.proofs.set_next.Goals as goal
 
 pub loop-p-init : goal.loop-p-init

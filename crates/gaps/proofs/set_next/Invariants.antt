@@ -1,9 +1,7 @@
 -- The places passed have gaps of 1, and the last one of 0.
 use Prim.Native.Nat.{◌-◌}
-use mathlib.Core.List.{[]}
-use native.Mathlib.Omega.{arith}
 use lib.ListN.{length}
-use Rattle.gaps.specs.GapLaws.{OnesTo, ones_none, ones_more, ones_all, ones_empty}
+use Rattle.gaps.specs.GapLaws.{OnesTo}
 use Rattle.gaps.proofs.set_next.Given as goal
 
 abbrev pub invariant-loop-p : goal.invariant-loop-p

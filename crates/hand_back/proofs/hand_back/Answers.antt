@@ -1,16 +1,9 @@
 -- `hand_back::hand_back` meets its contract: each pass is read and written.
-use Prim.Native.Nat.{ℕ, ◌-◌}
-use mathlib.Core.Path.{◌≡◌, refl, sym, ◌∙◌}
-use mathlib.Core.List.{List}
-use lib.ListN.{length}
-use Rattle.model.specs.Jobs.{Table}
-use Rattle.ancestry.specs.SparseTable.{Minima}
+use mathlib.Core.Path.{refl, sym, ◌∙◌}
 use Rattle.ancestry.specs.Room.{roomy_all}
-use Rattle.passes.specs.PlanPass.{Plan, jobs_are, plan_cells}
-use Rattle.hand_back.specs.HandBack.{HandedBack, handed_none, plan_inside, plan_more, plan_returned}
-use borrow.Author.Rules.{rules}
+use Rattle.passes.specs.PlanPass.{jobs_are, plan_cells}
+use Rattle.hand_back.specs.HandBack.{handed_none, plan_inside, plan_more, plan_returned}
 use Rattle.hand_back.proofs.hand_back.Goals as goal
-use Rattle.hand_back.proofs.hand_back.Invariants.{Underway}
 
 pub set_minima-requires : goal.set_minima-requires
 set_minima-requires c =

@@ -1,15 +1,9 @@
 -- `harness::copy_leading` meets its contract. The loop's invariant: `i` is within both lists, and the first `i` cells of `to` hold those of
 -- `from`. The measure is what is left of `from`.
-use mathlib.Core.Path.{◌≡◌, refl, sym, ap, ◌∙◌}
-use mathlib.Core.List.{List, [], ◌∷◌, ◌++◌}
-use Prim.Native.Nat.{ℕ, zero, suc, ◌≤◌, ◌<◌, ◌-◌, ◌+◌}
-use native.Mathlib.Nat.{le_of_suc-le-suc, not-suc-le-zero}
-use native.Mathlib.Numerals.{add-one}
-use native.Mathlib.Omega.{arith}
-use borrow.Author.Rules.{rules}
-use lib.ListN.{length, take, drop, set, get_or, drop_of_length-le}
-use lib.Seq.{take_all, take-length, drop-length}
-use Rattle.harness.specs.Packed.{copied}
+use mathlib.Core.Path.{◌≡◌}
+use mathlib.Core.List.{◌++◌}
+use Prim.Native.Nat.{◌≤◌, ◌-◌}
+use lib.ListN.{length, take, drop}
 use Rattle.harness.proofs.copy_leading.Given as goal
 
 abbrev pub invariant-loop-i : goal.invariant-loop-i

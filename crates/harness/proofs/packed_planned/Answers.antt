@@ -2,7 +2,6 @@
 use mathlib.Core.Path.{sym, ap, ◌∙◌}
 use Prim.Native.Nat.{ℕ, ◌+◌}
 use Rattle.harness.specs.Packed.{packed_planned}
-use borrow.Author.Rules.{rules}
 use Rattle.harness.proofs.packed_planned.Goals as goal
 
 pub returns-in-Done : goal.returns-in-Done

@@ -2,7 +2,6 @@
 use mathlib.Core.Path.{sym, ap, ◌∙◌}
 use Prim.Native.Nat.{ℕ, ◌*◌}
 use Rattle.harness.specs.Packed.{packed_read}
-use borrow.Author.Rules.{rules}
 use Rattle.harness.proofs.packed_read.Goals as goal
 
 pub returns-in-Read : goal.returns-in-Read

@@ -1,7 +1,6 @@
 -- `harness::packed_settled` meets its contract: each arm returns what `packedSettled` says of its case.
 use mathlib.Core.Path.{sym, ap, ◌∙◌}
 use Rattle.harness.specs.Packed.{packed_settled}
-use borrow.Author.Rules.{rules}
 use Rattle.harness.proofs.packed_settled.Goals as goal
 
 pub returns-in-Refused : goal.returns-in-Refused

@@ -1,6 +1,5 @@
 -- `highest::highest_of` meets its contract: a test for layout 0.
 use mathlib.Core.Path.{refl, sym, ◌∙◌}
-use borrow.Author.Rules.{rules}
 use Rattle.highest.proofs.highest_of.Goals as goal
 
 pub returns-then-equals : goal.returns-then-equals

@@ -1,6 +1,5 @@
 -- `highest::quiet_mark` meets its contract: a test for layout 0.
 use mathlib.Core.Path.{refl, sym, ◌∙◌}
-use borrow.Author.Rules.{rules}
 use Rattle.highest.proofs.quiet_mark.Goals as goal
 
 pub returns-then-equals : goal.returns-then-equals

@@ -1,6 +1,5 @@
 -- The cells get what the two choices answer.
 use mathlib.Core.Path.{refl, ◌∙◌}
-use borrow.Author.Rules.{rules}
 use Rattle.highest.proofs.set_highest.Goals as goal
 
 pub returns : goal.returns

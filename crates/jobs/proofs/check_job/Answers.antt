@@ -1,8 +1,7 @@
 -- `jobs::check_job` meets its contract: one law of the job's verdict at each return.
 use Prim.Native.Nat.{◌<◌}
 use mathlib.Core.Path.{sym, ◌∙◌}
-use borrow.Author.Rules.{rules}
-use borrow.Author.Tests.{ltb-true, ltb-false, not-true, not-false}
+use borrow.Author.Tests.{ltb-true, ltb-false}
 use native.Mathlib.Omega.{arith}
 use Rattle.jobs.proofs.JobVerdicts.{no_top, no_bottom, not_below, beyond, right}
 use Rattle.jobs.proofs.check_job.Goals as goal

@@ -1,11 +1,8 @@
 -- `jobs::check_jobs` meets its contract. The loop's invariant: the verdict on all jobs is that on those from j on.
-use Prim.Native.Nat.{◌-◌}
 use mathlib.Core.Path.{refl}
-use lib.ListN.{length, get_or}
+use lib.ListN.{get_or}
 use Rattle.jobs.specs.Checks.{JobChecked}
-use Rattle.jobs.proofs.JobVerdicts.{RightBelow, none_checked, one_more, wrong_job, all_checked}
-use borrow.Author.Rules.{rules}
-use native.Mathlib.Omega.{arith}
+use Rattle.jobs.proofs.JobVerdicts.{none_checked, one_more, wrong_job, all_checked}
 use Rattle.jobs.proofs.check_jobs.Goals as goal
 
 pub loop-j-init : goal.loop-j-init

@@ -1,11 +1,7 @@
 -- `jobs::check_jobs` meets its contract. The loop's invariant: the verdict on all jobs is that on those from j on.
 use Prim.Native.Nat.{◌-◌}
-use mathlib.Core.Path.{refl}
-use lib.ListN.{length, get_or}
-use Rattle.jobs.specs.Checks.{JobChecked}
-use Rattle.jobs.proofs.JobVerdicts.{RightBelow, none_checked, one_more, wrong_job, all_checked}
-use borrow.Author.Rules.{rules}
-use native.Mathlib.Omega.{arith}
+use lib.ListN.{length}
+use Rattle.jobs.proofs.JobVerdicts.{RightBelow}
 use Rattle.jobs.proofs.check_jobs.Given as goal
 
 abbrev pub invariant-loop-j : goal.invariant-loop-j

@@ -1,9 +1,7 @@
 -- `lines::clear_from` meets its contract: up to `i` stand the bytes kept, and then zeros.
 use borrow.Author.Rules.{rules}
-use Prim.Native.Nat.{◌≤◌, ◌-◌}
-use mathlib.Core.Path.{◌≡◌, refl}
-use mathlib.Core.List.{◌++◌}
-use lib.ListN.{length, take, replicate, length-set}
+use mathlib.Core.Path.{refl}
+use lib.ListN.{length-set}
 use Rattle.lines.specs.Writing.{cleared_none, cleared_more, cleared_all}
 use native.Mathlib.Omega.{arith}
 use Rattle.lines.proofs.clear_from.Goals as goal

@@ -1,6 +1,5 @@
 -- `lines::end_group` meets its contract: the layout and the end of the line are appended.
 use Rattle.lines.specs.Writing.{appended_then}
-use borrow.Author.Rules.{rules}
 use Rattle.lines.proofs.end_group.Goals as goal
 
 pub returns : goal.returns

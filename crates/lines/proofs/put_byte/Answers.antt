@@ -1,6 +1,5 @@
 -- `lines::put_byte` meets its contract: a store appends the byte.
 use Rattle.lines.specs.Writing.{appended_byte}
-use borrow.Author.Rules.{rules}
 use Rattle.lines.proofs.put_byte.Goals as goal
 
 pub returns : goal.returns

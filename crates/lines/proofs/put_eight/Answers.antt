@@ -1,6 +1,5 @@
 -- `lines::put_eight` meets its contract: the upper four digits and then the lower four.
 use Rattle.lines.specs.Writing.{eight_appended}
-use borrow.Author.Rules.{rules}
 use Rattle.lines.proofs.put_eight.Goals as goal
 
 pub returns : goal.returns

@@ -1,6 +1,5 @@
 -- `lines::put_four` meets its contract: the upper two digits and then the lower two.
 use Rattle.lines.specs.Writing.{four_appended}
-use borrow.Author.Rules.{rules}
 use Rattle.lines.proofs.put_four.Goals as goal
 
 pub returns : goal.returns

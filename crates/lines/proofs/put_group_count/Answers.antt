@@ -1,6 +1,5 @@
 -- `lines::put_group_count` meets its contract: the fields are appended one after the other.
 use Rattle.lines.specs.Writing.{group_count_appended}
-use borrow.Author.Rules.{rules}
 use Rattle.lines.proofs.put_group_count.Goals as goal
 
 pub returns : goal.returns

@@ -1,6 +1,5 @@
 -- `lines::put_kind` meets its contract: the two digits are appended one after the other.
 use Rattle.lines.specs.Writing.{appended_then}
-use borrow.Author.Rules.{rules}
 use Rattle.lines.proofs.put_kind.Goals as goal
 
 pub returns : goal.returns

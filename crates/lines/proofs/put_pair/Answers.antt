@@ -1,6 +1,5 @@
 -- `lines::put_pair` meets its contract: the fields are appended one after the other.
 use Rattle.lines.specs.Writing.{pair_appended}
-use borrow.Author.Rules.{rules}
 use Rattle.lines.proofs.put_pair.Goals as goal
 
 pub returns : goal.returns

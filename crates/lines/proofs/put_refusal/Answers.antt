@@ -1,6 +1,5 @@
 -- `lines::put_refusal` meets its contract: the fields are appended one after the other.
 use Rattle.lines.specs.Writing.{refusal_appended}
-use borrow.Author.Rules.{rules}
 use Rattle.lines.proofs.put_refusal.Goals as goal
 
 pub returns : goal.returns

@@ -1,6 +1,5 @@
 -- `lines::put_totals` meets its contract: the fields are appended one after the other.
 use Rattle.lines.specs.Writing.{totals_appended}
-use borrow.Author.Rules.{rules}
 use Rattle.lines.proofs.put_totals.Goals as goal
 
 pub returns : goal.returns

@@ -1,6 +1,5 @@
 -- `lines::start_group` meets its contract: the kind is 13.
 use Rattle.lines.specs.Writing.{group_started}
-use borrow.Author.Rules.{rules}
 use Rattle.lines.proofs.start_group.Goals as goal
 
 pub returns : goal.returns

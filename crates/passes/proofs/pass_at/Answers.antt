@@ -5,7 +5,6 @@ use Rattle.model.specs.Tree.{FFFF}
 use Rattle.schedule.specs.InWork.{job_in}
 use mathlib.Core.List.{List}
 use Prim.Native.Nat.{ℕ}
-use borrow.Author.Rules.{rules}
 use borrow.Author.Tests.{eqb-true, eqb-false}
 use Rattle.passes.specs.Read.{PairCells, PassCells, opener_in, mate_in}
 use Rattle.passes.proofs.pass_at.Goals as goal

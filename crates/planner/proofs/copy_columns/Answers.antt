@@ -1,10 +1,7 @@
 -- `planner::copy_columns` meets its contract. The loop's invariant: the cells passed are copied.
-use Prim.Native.Nat.{◌-◌}
 use mathlib.Core.Path.{refl, sym}
-use lib.ListN.{length}
 use native.Mathlib.Omega.{arith}
-use borrow.Author.Rules.{rules}
-use Rattle.planner.specs.Copies.{CopiedTo, copied_none, copied_more, copied_all}
+use Rattle.planner.specs.Copies.{copied_none, copied_more, copied_all}
 use Rattle.planner.proofs.copy_columns.Goals as goal
 
 pub loop-j-init : goal.loop-j-init

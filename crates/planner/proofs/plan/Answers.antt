@@ -7,7 +7,6 @@ use Rattle.settle.specs.Checked.{checked_refused, checked_accepted, checked_tree
 use Rattle.jobs.specs.Accepted.{Lent}
 use Rattle.planner.specs.Planned.{refused_as}
 use Rattle.jobs.specs.PlanVerdict.{unequal_bottoms, unequal_marks, unequal_windows, short_partners, short_uppers, short_printed, short_work, many_jobs, wrong_layouts, right_layouts}
-use borrow.Author.Rules.{rules}
 use Rattle.planner.proofs.plan.Goals as goal
 
 pub returns-then-bottoms-count : goal.returns-then-bottoms-count

@@ -1,9 +1,8 @@
 -- `planner::plan_accepted` meets its contract: the passes are made and handed back.
 use mathlib.Core.Path.{refl, ◌∙◌}
-use Rattle.model.specs.Jobs.{Table, table_of}
+use Rattle.model.specs.Jobs.{table_of}
 use Rattle.planner.specs.Planned.{enough}
 use native.Mathlib.Omega.{arith}
-use borrow.Author.Rules.{rules}
 use Rattle.planner.proofs.plan_accepted.Goals as goal
 
 pub make_passes-totals-requires : goal.make_passes-totals-requires

@@ -1,9 +1,7 @@
 -- `planner::plan_jobs` meets its contract: its jobs are wrong, or the table is accepted.
-use mathlib.Core.Path.{sym, refl, ◌∙◌}
-use Prim.Native.Nat.{ℕ}
+use mathlib.Core.Path.{sym, refl}
 use native.Mathlib.Omega.{arith}
-use lib.ListN.{length}
-use lib.Seq.{length-take-le, length_front}
+use lib.Seq.{length-take-le}
 use Rattle.model.specs.Planning.{work_cells}
 use Rattle.planner.specs.Planned.{refused_job, copies_accepted, room, planned_as}
 use borrow.Author.Rules.{rules}

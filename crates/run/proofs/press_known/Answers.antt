@@ -1,5 +1,4 @@
 -- `run::press_known` meets its contract: two lanes are known, and others by their number.
-use borrow.Author.Rules.{rules}
 use Rattle.run.proofs.press_known.Goals as goal
 
 pub returns-in-FullPasses : goal.returns-in-FullPasses

@@ -1,5 +1,4 @@
 -- `run::print_grouping` meets its contract: the groups are printed where all are full, and else 14.
-use borrow.Author.Rules.{rules}
 use Rattle.run.specs.Presses.{groups_printed_as, short_printed_as}
 use Rattle.run.proofs.print_grouping.Goals as goal
 

@@ -2,7 +2,6 @@
 use mathlib.Core.Path.{refl}
 use Rattle.lines.specs.Writing.{appended_all}
 use native.Mathlib.Omega.{arith}
-use borrow.Author.Rules.{rules}
 use Rattle.run.proofs.print_refusal.Goals as goal
 
 pub put_refusal-length-requires : goal.put_refusal-length-requires

@@ -1,6 +1,5 @@
 -- `run::print_table` meets its contract: the passes are made and printed.
-use Rattle.model.specs.Jobs.{Table, table_of}
-use borrow.Author.Rules.{rules}
+use Rattle.model.specs.Jobs.{table_of}
 use Rattle.run.proofs.print_table.Goals as goal
 
 pub make_passes-totals-requires : goal.make_passes-totals-requires

@@ -1,8 +1,6 @@
 -- `run::run_for` meets its contract: 8 and 13 first, and the arrays go by the size of the input.
 use mathlib.Core.Path.{◌≡◌, sym, ◌∙◌}
 use mathlib.Core.Bool.{true}
-use borrow.Author.Rules.{rules}
-use borrow.Author.Tests.{not-false, not-true}
 use Rattle.run.specs.Whole.{press_known}
 use Rattle.run.specs.Presses.{press_outcome, press_unknown, press_refused}
 use Rattle.run.proofs.run_for.Goals as goal

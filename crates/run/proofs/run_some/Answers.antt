@@ -1,7 +1,6 @@
 -- `run::run_some` meets its contract: the arrays have room for the jobs of the input.
 use Rattle.run.specs.Whole.{arrays}
 use native.Mathlib.Omega.{arith}
-use borrow.Author.Rules.{rules}
 use Rattle.run.proofs.run_some.Goals as goal
 
 pub run_in-requires : goal.run_in-requires

@@ -1,9 +1,5 @@
 -- `settle_layouts::copy_out` meets its contract. The loop's invariant: the cells passed are copied.
-use Prim.Native.Nat.{ℕ, ◌+◌, ◌-◌}
-use lib.ListN.{get_or}
-use Rattle.settle_layouts.proofs.Copies.{CopiedBelow, copied_none, copied_more, copied_all}
-use borrow.Author.Rules.{rules}
-use native.Mathlib.Omega.{arith}
+use Rattle.settle_layouts.proofs.Copies.{copied_none, copied_more, copied_all}
 use Rattle.settle_layouts.proofs.copy_out.Goals as goal
 
 pub loop-x-init : goal.loop-x-init

@@ -1,9 +1,7 @@
 -- `settle_layouts::copy_out` meets its contract. The loop's invariant: the cells passed are copied.
 use Prim.Native.Nat.{ℕ, ◌+◌, ◌-◌}
 use lib.ListN.{get_or}
-use Rattle.settle_layouts.proofs.Copies.{CopiedBelow, copied_none, copied_more, copied_all}
-use borrow.Author.Rules.{rules}
-use native.Mathlib.Omega.{arith}
+use Rattle.settle_layouts.proofs.Copies.{CopiedBelow}
 use Rattle.settle_layouts.proofs.copy_out.Given as goal
 
 abbrev pub invariant-loop-x : goal.invariant-loop-x

@@ -3,7 +3,6 @@ use mathlib.Core.Path.{refl, ap, ◌∙◌}
 use Rattle.model.specs.Answers.{settled_answer}
 use Rattle.settle.specs.Checked.{checked_refused, checked_accepted, checked_tree}
 use Rattle.settle_layouts.proofs.Outcome.{short_depths, short_firsts, short_lasts, roomy, refused_as, settled_as}
-use borrow.Author.Rules.{rules}
 use Rattle.settle_layouts.proofs.settle_layouts.Goals as goal
 
 pub returns-then-depths-count : goal.returns-then-depths-count

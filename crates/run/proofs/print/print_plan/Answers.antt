@@ -3,7 +3,6 @@ use mathlib.Core.Path.{refl}
 use native.Mathlib.Nat.{le_refl}
 use Rattle.run.specs.Printing.{totals_room, plan_printed}
 use native.Mathlib.Omega.{arith}
-use borrow.Author.Rules.{rules}
 use Rattle.run.proofs.print.print_plan.Goals as goal
 
 pub put_plan-end-requires : goal.put_plan-end-requires

@@ -1,6 +1,5 @@
 -- `run::print::put_pass` meets its contract: a pair or a single has its line.
 use native.Mathlib.Omega.{arith}
-use borrow.Author.Rules.{rules}
 use Rattle.run.proofs.print.put_pass.Goals as goal
 
 pub highest_at-upper-requires : goal.highest_at-upper-requires

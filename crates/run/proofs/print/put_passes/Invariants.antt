@@ -1,13 +1,10 @@
 -- `run::print::put_passes` meets its contract: each pass is read and appended.
 use Prim.Native.Nat.{ℕ, ◌-◌, ◌≤◌}
-use mathlib.Core.Path.{◌≡◌}
 use mathlib.Core.List.{List}
 use Rattle.model.specs.Jobs.{Table}
 use Rattle.ancestry.specs.SparseTable.{Searchable}
-use Rattle.passes.specs.PlanPass.{Plan, plan_cells}
-use Rattle.run.specs.Printing.{PassesAppended, passes_none, passes_known, passes_room, passes_more}
-use borrow.Author.Rules.{rules}
-use native.Mathlib.Omega.{arith}
+use Rattle.passes.specs.PlanPass.{Plan}
+use Rattle.run.specs.Printing.{PassesAppended}
 use Rattle.run.proofs.print.put_passes.Given as goal
 
 -- the lines of the first k passes stand there, whatever table the plan is of

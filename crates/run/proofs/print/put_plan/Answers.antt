@@ -1,6 +1,5 @@
 -- `run::print::put_plan` meets its contract: the array that is taken has room for the minima.
 use mathlib.Core.Path.{refl}
-use borrow.Author.Rules.{rules}
 use native.Mathlib.Omega.{arith}
 use Rattle.ancestry.specs.Room.{roomy_all, roomy_few}
 use Rattle.run.proofs.print.put_plan.Goals as goal
