@@ -4,11 +4,11 @@
 
 use model::LaneCount;
 use std::env::FillError;
-use std::io::{self, Read, Write};
+use std::io::{self, Write};
 use std::rt::Env;
 
 // Bytes of input that are read at most.
-const LONGEST: u64 = 65536;
+const LONGEST: usize = 65536;
 
 // The number that a digit stands for; anything else counts as 0, which no press has for its lanes.
 fn digit_value(byte: u8) -> u8 {
@@ -32,9 +32,9 @@ fn lanes_named(env: &impl Env) -> LaneCount {
 
 fn main(rt: HostRuntime) -> io::Result<()> {
     let lanes = lanes_named(&rt);
-    let mut table = Vec::new(rt.alloc());
-    rt.reader().take(LONGEST).read_to_end(&mut table)?;
+    let mut table = [0u8; LONGEST];
+    let length = input::read_full(&mut rt.reader(), &mut table)?;
     let mut groups = [0u8; run::OUTPUT];
-    let printed = run::group_run(&table, &mut groups, lanes);
+    let printed = run::group_run(&table[..length], &mut groups, lanes);
     io::writer(&rt).write_all(&groups[..printed])
 }
