@@ -1,2 +1,2 @@
-// The law that both ends of what two jobs share reach the plan, in specs/; there is no code here.
+// The law that both ends of what two jobs share reach the plan, in specs/ and proofs/; there is no code here.
 #![tactic(auto)]

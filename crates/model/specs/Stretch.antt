@@ -52,7 +52,7 @@ begun (of_second n) first second = second
 abbrev pub numbers_of : Stretch → List ℕ → List ℕ → List ℕ
 numbers_of s xs ys = take (length_of s) (begun s xs ys)
 
--- where a list as dropped starts: `ptr` is a block and an offset in it by bytes, and a cell has two
+-- where a list as dropped starts: `ref_ptr` is a block and an offset in it by bytes, and a cell has two
 abbrev pub kept_from : Bor (List ℕ) → ℕ × ℕ
 kept_from list = (list.ref_ptr.0, list.ref_ptr.1 + 2 * dropped list.now)
 
