@@ -132,16 +132,16 @@ module _ (ps : List ℕ) (t : Tree ps) where
       rw same d.1
 
   -- in either order
-  pub smallest_common : (x y r : ℕ) → x < length ps → y < length ps
-      → r ≡ min (min x y) (least_of (smallest_parent ps) (min (first_leaf ps x) (first_leaf ps y) + 1) (max (first_leaf ps x) (first_leaf ps y) + 1 - (min (first_leaf ps x) (first_leaf ps y) + 1))) → LowestCommonAncestor ps x y r
-  smallest_common x y r hx hy e = elim (dec_le (first_leaf ps x) (first_leaf ps y)) [
+  pub smallest_common : (x y from to r : ℕ) → x < length ps → y < length ps → from ≡ min (first_leaf ps x) (first_leaf ps y) + 1 → to ≡ max (first_leaf ps x) (first_leaf ps y) + 1
+      → r ≡ min (min x y) (least_of (smallest_parent ps) from (to - from)) → LowestCommonAncestor ps x y r
+  smallest_common x y from to r hx hy begins ends e = elim (dec_le (first_leaf ps x) (first_leaf ps y)) [
     | yes h ↦
-        let low : min (first_leaf ps x) (first_leaf ps y) ≡ first_leaf ps x = omega arith in
-        let span : max (first_leaf ps x) (first_leaf ps y) + 1 - (first_leaf ps x + 1) ≡ first_leaf ps y - first_leaf ps x = omega arith in
+        let low : from ≡ first_leaf ps x + 1 = omega arith in
+        let span : to - (first_leaf ps x + 1) ≡ first_leaf ps y - first_leaf ps x = omega arith in
         rightward x y r hx hy h (rw (low, span) at e)
     | no h ↦
-        let low : min (first_leaf ps x) (first_leaf ps y) ≡ first_leaf ps y = omega arith in
-        let span : max (first_leaf ps x) (first_leaf ps y) + 1 - (first_leaf ps y + 1) ≡ first_leaf ps x - first_leaf ps y = omega arith in
+        let low : from ≡ first_leaf ps y + 1 = omega arith in
+        let span : to - (first_leaf ps y + 1) ≡ first_leaf ps x - first_leaf ps y = omega arith in
         let two : min x y ≡ min y x = omega arith in
         mirrored (rightward y x r hy hx (omega arith) (rw (low, span, two) at e))
   ]

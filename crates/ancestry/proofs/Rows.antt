@@ -6,16 +6,17 @@ use native.Mathlib.Nat.{pow-suc, mul-le-mul_right, suc-mul, zero-mul, one-mul}
 use native.Mathlib.Decide.{ℕ_discrete, dec_le}
 use native.Mathlib.Omega.{arith}
 use lib.ListN.{length, get_or, set, replicate, length-set, get_or-replicate}
-use lib.Seq.{get_or-set_same, get_or-set_other}
+use lib.Seq.{get_or-set_other}
 use lib.Dec.{lit<}
 use lib.Pow.{pow_mono, shl_exact}
 use lib.Count.{count_leading_zeros, leading_length}
-use borrow.Author.Tests.{eq-eqb, ne_eqb}
+use Rattle.std.proofs.lemmas.Grind.{common_steps}
 use Rattle.model.specs.Tree.{FFFF, first_leaf, last_leaf}
 use Rattle.laws.specs.Least.{least_of, least_none, least_one, least_more, least_append, least_cover, least_cap}
 use Rattle.tree_laws.specs.Ancestors.{ancestor_root}
 use Rattle.tree_laws.specs.Spans.{first_le_last, nested}
-use Rattle.settle.specs.Spanned.{first_cells, Spanned}
+use Rattle.settle.specs.declared.SettledTree.{SettledTree}
+use Rattle.settle.specs.Spanned.{Spanned}
 use Rattle.ancestry.specs.SparseTable.{parent_from, parent_below, smallest_parent, stride_of, block, Roomy, Right, RowsTo, RowSet, Minima, Searchable}
 use Rattle.ancestry.specs.Room.{stride_small}
 
@@ -63,7 +64,7 @@ pub record ParentsTo (ps : List ℕ) (x : ℕ) (cells : List ℕ) : Type 0 where
 
 module _ (ps : List ℕ) where
   -- the first leaf of a layout, as it is read, is a leaf of the tree
-  pub leaf_read : (tree : List ℕ) → Spanned ps tree → (x leaf : ℕ) → x < length ps → leaf ≡ get_or tree (first_cells + x) 0 → (leaf ≡ first_leaf ps x) × (leaf ≤ last_leaf ps 0)
+  pub leaf_read : (tree : SettledTree) → Spanned ps tree → (x leaf : ℕ) → x < length ps → leaf ≡ get_or tree.first_leaves x 0 → (leaf ≡ first_leaf ps x) × (leaf ≤ last_leaf ps 0)
   leaf_read tree s x leaf h e =
       let is : leaf ≡ first_leaf ps x = e ∙ s.first_at x h in
       (is, omega (arith, first_le_last ps s.tree x h, (nested ps s.tree h (ancestor_root ps s.tree x)).1))
@@ -71,8 +72,9 @@ module _ (ps : List ℕ) where
   two_rows : (cells : List ℕ) → Roomy ps cells → stride_of ps + stride_of ps ≤ length cells
   two_rows cells r = omega (arith, row_room ps cells r 1 (omega arith), one-mul (stride_of ps))
 
-  pub parent_inside : (cells : List ℕ) → Roomy ps cells → (k : ℕ) → k ≤ last_leaf ps 0 → stride_of ps + k < length cells
-  parent_inside cells r k h = omega (arith, two_rows cells r)
+  -- so it has a cell in row 1
+  pub leaf_inside : (tree : SettledTree) → Spanned ps tree → (cells : List ℕ) → Roomy ps cells → (x leaf : ℕ) → x < length ps → leaf ≡ get_or tree.first_leaves x 0 → stride_of ps + leaf < length cells
+  leaf_inside tree s cells r x leaf h e = omega (arith, two_rows cells r, (leaf_read tree s x leaf h e).1)
 
   pub parents_none : (cells : List ℕ) → 0 < length ps → Roomy ps cells → cells ≡ replicate (length cells) FFFF → ParentsTo ps 1 cells
   parents_none cells nonempty r e =
@@ -91,20 +93,16 @@ module _ (ps : List ℕ) where
       let at : 1 + (x - 1) ≡ x = omega arith in
       rw (one, least_more (parent_from ps k) 1 (x - 1), at)
 
-  pub parents_more : (x leaf : ℕ) (cells : List ℕ) (v : ℕ) → x < length ps → leaf ≡ first_leaf ps x → leaf ≤ last_leaf ps 0 → v ≡ min (get_or cells (stride_of ps + leaf) 0) (get_or ps x 0) → ParentsTo ps x cells → ParentsTo ps (x + 1) (set cells (stride_of ps + leaf) v)
+  pub parents_more : (tree : SettledTree) → Spanned ps tree → (x leaf : ℕ) (cells : List ℕ) (v : ℕ) → x < length ps → leaf ≡ get_or tree.first_leaves x 0 → v ≡ min (get_or cells (stride_of ps + leaf) 0) (get_or ps x 0) → ParentsTo ps x cells → ParentsTo ps (x + 1) (set cells (stride_of ps + leaf) v)
   unfolding parent_from
-  parents_more x leaf cells v hx e inside is p =
+  parents_more tree s x leaf cells v hx read is p =
+      let e : leaf ≡ first_leaf ps x = (leaf_read tree s x leaf hx read).0 in
       record {
         some = omega arith;
         within = omega arith;
         roomy = roomy_same ps cells (set cells (stride_of ps + leaf) v) (length-set {A = ℕ} cells (stride_of ps + leaf) v) p.roomy;
         none = λ k h. get_or-set_other cells (stride_of ps + leaf) k v 0 (omega arith) ∙ p.none k h;
-        parents = λ k h. elim (ℕ_discrete k leaf) [
-          | yes same ↦ rw (same, get_or-set_same cells (stride_of ps + leaf) v 0 (parent_inside cells p.roomy leaf inside), is, p.parents leaf (omega arith), parent_more x leaf p.some, eq-eqb (first_leaf ps x) leaf (sym e)) refl
-          | no other ↦
-              get_or-set_other cells (stride_of ps + leaf) (stride_of ps + k) v 0 (omega arith) ∙ p.parents k h
-              ∙ sym (parent_more x k p.some ∙ rw (ne_eqb (first_leaf ps x) k (λ q. other (sym q ∙ sym e))) (omega (arith, least_cap (parent_from ps k) 1 (x - 1))))
-        ];
+        parents = λ k h. grind (arith, common_steps, p.parents k h, parent_more x k p.some, least_cap (parent_from ps k) 1 (x - 1), leaf_inside tree s cells p.roomy x leaf hx read);
       }
 
   pub parents_all : (x : ℕ) (cells : List ℕ) → length ps ≤ x → ParentsTo ps x cells → RowsTo ps 1 cells
@@ -123,23 +121,6 @@ module _ (ps : List ℕ) where
       rows (suc (suc n)) k h short = absurd (omega arith)
 
 -- ---- a row after the other
-
-pub row_none : (at stride half : ℕ) (old : List ℕ) → RowSet at stride half 0 old old
-row_none at stride half old = record { kept = refl; before = λ i h. refl; set_to = λ k h. absurd (omega arith) }
-
-pub row_more : (at stride half k v : ℕ) (old new : List ℕ) → at + stride + stride ≤ length old → k + (half + half) < stride → v ≡ min (get_or new (at + k) 0) (get_or new (at + k + half) 0) → RowSet at stride half k old new → RowSet at stride half (k + 1) old (set new (at + stride + k) v)
-row_more at stride half k v old new room short is r =
-    record {
-      kept = length-set {A = ℕ} new (at + stride + k) v ∙ r.kept;
-      before = λ i h. get_or-set_other new (at + stride + k) i v 0 (omega arith) ∙ r.before i h;
-      set_to = λ j h. elim (ℕ_discrete j k) [
-        | yes same ↦ rw (same, get_or-set_same new (at + stride + k) v 0 (omega (arith, r.kept)), is, r.before (at + k) (omega arith), r.before (at + k + half) (omega arith)) refl
-        | no other ↦ get_or-set_other new (at + stride + k) (at + stride + j) v 0 (omega arith) ∙ r.set_to j (omega arith)
-      ];
-    }
-
-pub row_all : (at stride half k : ℕ) (old new : List ℕ) → stride ≤ k + (half + half) → RowSet at stride half k old new → RowSet at stride half (stride - (half + half)) old new
-row_all at stride half k old new end r = record { kept = r.kept; before = r.before; set_to = λ j h. r.set_to j (omega arith) }
 
 -- the rows so far, the last of which begins at `at`, with blocks as long as `half`
 pub record Rows (ps : List ℕ) (at half m : ℕ) (cells : List ℕ) : Type 0 where
@@ -199,7 +180,7 @@ bits_cover n h =
     let e : 64 - count_leading_zeros 64 n ≡ l.0 = omega (arith, l.1) in
     rw e (l.2, l.3)
 
-module _ (ps tree cells : List ℕ) (q : Searchable ps tree cells) (from to : ℕ) (order : from ≤ to) (inside : to < stride_of ps) where
+module _ (ps : List ℕ) (tree : SettledTree) (cells : List ℕ) (q : Searchable ps tree cells) (from to : ℕ) (order : from ≤ to) (inside : to < stride_of ps) where
   abbrev bits : ℕ
   bits = 64 - count_leading_zeros 64 (to - from)
 

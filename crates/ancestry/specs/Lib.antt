@@ -2,3 +2,4 @@
 pub mod Ancestry
 pub mod SparseTable
 pub mod Room
+pub mod Searching

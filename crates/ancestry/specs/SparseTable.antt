@@ -3,6 +3,7 @@
 use Rattle.std.specs.Prelude.{ℕ, suc, ◌+◌, ◌-◌, ◌*◌, ◌/◌, ◌^◌, ◌<◌, ◌≤◌, min, ◌≡◌, cond, List, length, get_or, eqb}
 use Rattle.model.specs.Tree.{FFFF, first_leaf, last_leaf}
 use Rattle.laws.specs.Least.{least_of}
+use Rattle.settle.specs.declared.SettledTree.{SettledTree}
 use Rattle.settle.specs.Spanned.{Spanned}
 
 -- the parent of y, if k is its first leaf
@@ -52,6 +53,6 @@ pub record RowSet (at stride half n : ℕ) (old new : List ℕ) : Type 0 where
   pub set_to : (k : ℕ) → k < n → get_or new (at + stride + k) 0 ≡ min (get_or old (at + k) 0) (get_or old (at + k + half) 0)
 
 -- a settled tree with its minima
-pub record Searchable (ps tree minima : List ℕ) : Type 0 where
+pub record Searchable (ps : List ℕ) (tree : SettledTree) (minima : List ℕ) : Type 0 where
   pub spanned : Spanned ps tree
   pub rows : Minima ps minima

@@ -1,6 +1,6 @@
 -- Both ends of what two partners share reach the plan (document 02, 2026-02): in what *Plan* hands back, U and L of a pair are the first and the last number of the shared
 -- stretch of their paths, and U is the highest layout other than 0 of the earlier job.
-use Rattle.std.specs.Prelude.{ℕ, ◌<◌, ◌≡◌, refl, true, length, get_or, drop}
+use Rattle.std.specs.Prelude.{ℕ, ◌<◌, ◌≡◌, refl, true, length, get_or, drop, Ok}
 use Rattle.std.proofs.Math.Path.{sym}
 use Rattle.std.proofs.Common.{◌∙◌, arith}
 use Rattle.std.proofs.Math.Bool.{and-eq-true_iff}
@@ -14,7 +14,6 @@ use Rattle.model.specs.Greedy.{passes}
 use Rattle.model.specs.Planning as Planning
 use Rattle.model.specs.Planning.{partner_in, upper, printed}
 use Rattle.model.specs.Outcomes.{PlannedAs}
-use Rattle.model.specs.declared.Planned.TheVariants as planned
 use Rattle.model.specs.declared.Totals.{Totals}
 use Rattle.laws.specs.Numbers.{numbers_before}
 use Rattle.tree_laws.specs.Sharing.{on_own, shares_meet}
@@ -52,7 +51,7 @@ module _ (tb : Table) (a : Accepted tb) (i j : ℕ) (hi : i < jobs tb) (hj : j <
 -- our pairs are read from the partner result: I and J, both below M, are a pair if cell I holds J
 pub both_ends :
     (tb : Table) (partners uppers printed work : List ℕ) (t : Totals) (partners' uppers' printed' work' : List ℕ)
-    → PlannedAs (Planning.plan_verdict tb (length partners) (length uppers) (length printed) (length work)) tb partners uppers printed work (planned.Done t) partners' uppers' printed' work'
+    → PlannedAs (Planning.plan_verdict tb (length partners) (length uppers) (length printed) (length work)) tb partners uppers printed work (Ok t) partners' uppers' printed' work'
     → (i j : ℕ)
     → i < jobs tb
     → j < jobs tb
@@ -61,7 +60,7 @@ pub both_ends :
 unfolding Planning.upper_layouts Planning.printed_layouts
 both_ends tb partners uppers printed work t partners' uppers' printed' work' o i j hi hj e = go (Planning.plan_verdict tb (length partners) (length uppers) (length printed) (length work)) refl o
   where
-    go : (v : Verdict) → Planning.plan_verdict tb (length partners) (length uppers) (length printed) (length work) ≡ v → PlannedAs v tb partners uppers printed work (planned.Done t) partners' uppers' printed' work'
+    go : (v : Verdict) → Planning.plan_verdict tb (length partners) (length uppers) (length printed) (length work) ≡ v → PlannedAs v tb partners uppers printed work (Ok t) partners' uppers' printed' work'
         → BothEnds tb i j (get_or uppers' i FFFF) (get_or printed' i FFFF)
     go (refused number place) v o = let apart : ◌≡◌ {A = ℕ} 0 1 = let r = o.answered in cc in absurd (omega arith)
     go accepted v o =

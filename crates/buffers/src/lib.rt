@@ -1,51 +1,30 @@
-// What many parts do with cells and numbers: a cell as an index, cells filled with one number, the lesser and the larger of two numbers.
+// The five buffers that a caller lends for a table.
 #![tactic(auto)]
 
-ghost use Rattle.std.specs.Prelude.{◌≡◌, min, max, length, replicate};
+use model::ABSENT;
 
-// A cell as an index: as a call, so that a cast of a cell that is read asks for no proof that it fits.
-pub fn wide(cell: u16) -> usize
-    ensures { result ≡ cell }
-{
-    cell as usize
+// The five buffers that a table's columns are read into: a number cell for each parent, top and bottom, a byte for each solo mark and window.
+#[derive(Drop)]
+pub struct TableBuffers<'a> {
+    pub parents: &'a mut [u16],
+    pub tops: &'a mut [u16],
+    pub bottoms: &'a mut [u16],
+    pub marks: &'a mut [u8],
+    pub windows: &'a mut [u8],
 }
 
-// One value in every cell.
-pub fn fill(cells: &mut [u16], value: u16)
-    ensures { cells.new ≡ replicate (length cells.old) value }
-{
-    let mut i = 0;
-    while i < cells.len() {
-        cells[i] = value;
-        i += 1;
-    }
-}
+impl TableBuffers<'_> {
+    ghost use Rattle.buffers.specs.Lent.{SameBuffers, Cleared};
 
-// 0 in every byte.
-pub fn clear_bytes(bytes: &mut [u8])
-    ensures { bytes.new ≡ replicate (length bytes.old) 0 }
-{
-    let mut i = 0;
-    while i < bytes.len() {
-        bytes[i] = 0;
-        i += 1;
+    // As they are where nothing is used.
+    pub fn clear(&mut self)
+        ensures same { SameBuffers self.old self.new }
+        ensures cleared { Cleared self.new }
+    {
+        self.parents.fill(ABSENT);
+        self.tops.fill(ABSENT);
+        self.bottoms.fill(ABSENT);
+        self.marks.fill(0);
+        self.windows.fill(0);
     }
-}
-
-pub fn lesser(a: usize, b: usize) -> usize
-    ensures { result ≡ min a b }
-{
-    if a < b {
-        return a;
-    }
-    b
-}
-
-pub fn larger(a: usize, b: usize) -> usize
-    ensures { result ≡ max a b }
-{
-    if a < b {
-        return b;
-    }
-    a
 }

@@ -1,5 +1,5 @@
 -- Laws of digits in the shapes that the code asks: one byte, the four digits of a field, the two of a kind.
-use Prim.Native.Nat.{ℕ, suc, ◌+◌, ◌-◌, ◌*◌, ◌<◌, ◌≤◌}
+use Prim.Native.Nat.{ℕ, suc, ◌+◌, ◌-◌, ◌*◌, ◌^◌, ◌<◌, ◌≤◌}
 use mathlib.Core.Path.{◌≡◌, refl, sym, ◌∙◌}
 use mathlib.Core.Logic.{◌⊎◌, inl, inr, ⊎_elim, ◌≢◌}
 use mathlib.Core.Bool.{Bool, true, false, cond, ◌&&◌, true≢false, and-true, and-false, or-false, and-eq-true_iff}
@@ -10,11 +10,13 @@ use native.Mathlib.Numerals.{add-one}
 use lib.ListN.{length, get_or, set, take, drop, replicate, length-set, length-replicate, get_or-replicate}
 use lib.Seq.{drop-cons, get_or-set_same, get_or-set_other}
 use lib.Dec.{eqb, ltb, leb}
-use borrow.Author.Tests.{ne_eqb, eqb-true, eqb-false, eq-eqb, ltb-true, leb-true, leb-false, le-leb, lt-leb, lt-ltb, le-ltb}
+use Rattle.std.proofs.Common.{Some, None, Result, Ok, Err}
+use Rattle.std.specs.Result.{OkIff, result_ok}
+use borrow.Author.Tests.{eqb-true, eqb-false, eq-eqb, ltb-true, leb-true, leb-false, le-leb, lt-leb, lt-ltb, le-ltb}
 use Rattle.model.specs.Lists.{all_of}
 use Rattle.model.specs.Table.{is_digit, digit_value, number_after, kind_of}
 use Rattle.laws.specs.Booleans.{answers, same_test}
-use Rattle.frame.specs.Fields.{digit_read, DigitByte, DigitValues, FieldRead, KindRead}
+use Rattle.frame.specs.Fields.{digit_read, DigitByte, DigitValues, FieldRead, number_at, begins_kind}
 
 -- ---- one byte
 
@@ -201,6 +203,21 @@ window_read s at h =
     let t = tells_two (get_or s at 0) (get_or s (at + 1) 0) _ _ refl refl in
     record { tells = rw (two_at s at h) t.0; value = rw (two_at s at h) t.1 }
 
+-- ---- what is made of the sum
+
+-- right digits make a number, wrong ones none
+module _ (n : ℕ) (s : List ℕ) (at r : ℕ) (f : FieldRead n s at r) where
+  fitting : r < 16 ^ n → Some r ≡ number_at n at s
+  fitting h = rw (sym f.tells ∙ lt-ltb r (16 ^ n) h, f.value h)
+
+  too_large : 16 ^ n ≤ r → None ≡ number_at n at s
+  too_large h = rw (sym f.tells ∙ le-ltb r (16 ^ n) h)
+
+  -- a sum that is kept exactly where it fits
+  pub kept : {E : Type 0} (k : Result ℕ E) → OkIff k (r < 16 ^ n) r → result_ok k ≡ number_at n at s
+  kept (Ok x) h = rw h.1 (fitting h.0)
+  kept (Err e) h = too_large (omega arith)
+
 -- ---- the kind
 
 spelled : (a b k : ℕ) → k < 10 → Digit a → Digit b → digit_value a * 16 + digit_value b ≡ k → (a ≡ 48) × (b ≡ 48 + k)
@@ -209,8 +226,7 @@ spelled a b k h (low f t v) (high f' t' v') e = absurd (omega arith)
 spelled a b k h (high f t v) y e = absurd (omega arith)
 
 -- a kind below 10 is spelled by '0' and one other byte
-kind_bytes : (s : List ℕ) (k : ℕ) → 2 ≤ length s → k < 10
-    → (all_of is_digit (take 2 s) && eqb (kind_of s) k) ≡ (eqb (get_or s 0 0) 48 && eqb (get_or s 1 0) (48 + k))
+pub kind_bytes : (s : List ℕ) (k : ℕ) → 2 ≤ length s → k < 10 → (all_of is_digit (take 2 s) && eqb (kind_of s) k) ≡ begins_kind s k
 unfolding all_of number_after
 kind_bytes [] k h u = absurd (omega arith)
 kind_bytes (a ∷ []) k h u = absurd (omega arith)
@@ -233,11 +249,3 @@ kind_bytes (a ∷ b ∷ s) k h u = same_test _ _ to_bytes of_bytes
         let x = low_digit a (omega arith) (omega arith) in
         let y = low_digit b (omega arith) (omega arith) in
         rw (x.0, y.0, eq-eqb (kind_of (a ∷ b ∷ s)) k (omega arith))
-
--- where the first byte is '0' the second tells the kind
-pub kind_read : (s : List ℕ) → 2 ≤ length s → get_or s 0 0 ≡ 48 → KindRead s (get_or s 1 0)
-kind_read s h e k l u = sym (kind_bytes s k h (omega arith) ∙ rw (eq-eqb (get_or s 0 0) 48 e))
-
-pub kind_unknown : (s : List ℕ) → 2 ≤ length s → (get_or s 0 0 ≡ 48 → ⊥) → KindRead s 0
-kind_unknown s h e k l u =
-    ne_eqb 0 (48 + k) (λ q. omega arith) ∙ sym (kind_bytes s k h (omega arith) ∙ rw (ne_eqb (get_or s 0 0) 48 e))

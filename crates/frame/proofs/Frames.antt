@@ -1,20 +1,22 @@
 -- What the fields and the kind that were read tell of a line's frame, by the number of bytes before its 0A.
-use Prim.Native.Nat.{ℕ, zero, suc, ◌+◌, ◌^◌, ◌<◌, ◌≤◌}
-use mathlib.Core.Path.{◌≡◌, refl, sym, ◌∙◌}
-use mathlib.Core.Bool.{Bool, true, false, cond, ◌&&◌, and-true, and-false, and_assoc, and-eq-true_iff}
+use Prim.Native.Nat.{ℕ, zero, suc, ◌+◌, ◌<◌, ◌≤◌}
+use mathlib.Core.Path.{◌≡◌, refl, ◌∙◌}
+use mathlib.Core.Bool.{Bool, true, false, cond, ◌&&◌, and-true, and-false, and_assoc}
 use mathlib.Core.Option.{none, some}
 use mathlib.Core.List.{List, [], ◌∷◌}
 use native.Mathlib.Omega.{arith}
 use native.Mathlib.Nat.{zero-add, suc-add}
-use lib.ListN.{length, get_or, take, drop}
+use lib.ListN.{length, get_or, take, drop, drop_of_length-le}
 use lib.Seq.{take-nil}
 use lib.Dec.{eqb}
-use borrow.Author.Tests.{eqb-true, ltb-true, lt-ltb, le-ltb}
+use borrow.Author.Tests.{eqb-true}
 use Rattle.model.specs.Lists.{all_of}
-use Rattle.model.specs.Table.{is_digit, kind_of, field_at, window_at, layout_frame, job_frame, solo_frame, window_frame, end_frame, first_line, frame_of}
+use Rattle.model.specs.Table.{is_digit, number_after, kind_of, field_at, window_at, layout_frame, job_frame, solo_frame, window_frame, end_frame, first_line, frame_of}
 use Rattle.laws.specs.Booleans.{one_answer}
-use Rattle.frame.specs.Fields.{FieldRead, spells, KindRead, ends_after}
-use Rattle.frame.specs.Lines.{digit_line, windowed_line, end_within, digit_line_end, digit_line_no_end, digit_line_within, short_line, long_frame, long_line, windowed_line_lem, no_frame}
+use Rattle.std.proofs.Common.{Some, None}
+use Rattle.frame.specs.Fields.{number_at, begins_kind, ends_after}
+use Rattle.frame.proofs.Digits.{kind_bytes}
+use Rattle.frame.specs.Lines.{digit_line, end_within, digit_line_no_end, short_line, long_frame, long_line, windowed_line_lem, no_frame}
 
 -- ---- the digits of a line
 
@@ -57,105 +59,109 @@ windowed_digits : (s : List ℕ) → ends_after 12 s ≡ true → digit_line 12 
 unfolding digit_line
 windowed_digits s e = rw (e, and-true, digits_of 10 2 s, digits_of 6 4 s, digits_of 2 4 s) (simp and_assoc)
 
--- ---- what a field that was read tells
+-- ---- what a field tells
 
-module _ (n : ℕ) (s : List ℕ) (at r : ℕ) (f : FieldRead n s at r) where
-  right : r < 16 ^ n → right_field n at s ≡ true
-  right h = sym f.tells ∙ lt-ltb r (16 ^ n) h
+module _ (n : ℕ) (s : List ℕ) (at : ℕ) where
+  wrong : None ≡ number_at n at s → right_field n at s ≡ false
+  wrong e = go (right_field n at s) refl e
+    where
+      go : (t : Bool) → right_field n at s ≡ t → None ≡ cond t (Some (number_after 0 (take n (drop at s)))) None → t ≡ false
+      go false w z = refl
+      go true w z = let apart : ◌≡◌ {A = ℕ} 0 1 = cc in absurd (omega arith)
 
-  wrong : 16 ^ n ≤ r → right_field n at s ≡ false
-  wrong h = sym f.tells ∙ le-ltb r (16 ^ n) h
+  -- it is right, and its number is r
+  record Right (r : ℕ) : Type 0 where
+    digits : right_field n at s ≡ true
+    number : r ≡ number_after 0 (take n (drop at s))
 
-  pub read_right : right_field n at s ≡ true → r < 16 ^ n
-  read_right e = ltb-true r (16 ^ n) (f.tells ∙ e)
+  right : {r : ℕ} → Some r ≡ number_at n at s → Right r
+  right {r} e = go (right_field n at s) refl e
+    where
+      go : (t : Bool) → right_field n at s ≡ t → Some r ≡ cond t (Some (number_after 0 (take n (drop at s)))) None → Right r
+      go true d z = record { digits = d; number = cc }
+      go false d z = let apart : ◌≡◌ {A = ℕ} 0 1 = cc in absurd (omega arith)
 
 -- ---- a line that ends after 6 bytes
 
-module _ (s : List ℕ) (e : ends_after 6 s ≡ true) (p : ℕ) (parent : FieldRead 4 s 2 p) where
+module _ (s : List ℕ) (e : ends_after 6 s ≡ true) where
   short_none : (all_of is_digit (take 2 s) && right_field 4 2 s) ≡ false → frame_of (first_line s) ≡ none
   short_none w = no_frame s (short_digits s e ∙ w) (no_later 6 10 s (omega arith) e) (no_later 6 12 s (omega arith) e)
 
-  pub short_wrong : 65536 ≤ p → frame_of (first_line s) ≡ none
-  short_wrong h = short_none (rw (wrong 4 s 2 p parent h, and-false))
+  pub short_wrong : None ≡ number_at 4 2 s → frame_of (first_line s) ≡ none
+  short_wrong w = short_none (rw (wrong 4 s 2 w, and-false))
 
-  pub short_right : p < 65536 → (r : ℕ) → KindRead s r → frame_of (first_line s) ≡ cond (spells r 1) (some (layout_frame p)) none
-  short_right h r kind = rw (kind 1 (omega arith) (omega arith), parent.value h) (go (all_of is_digit (take 2 s)) refl)
+  pub short_right : {p : ℕ} → Some p ≡ number_at 4 2 s → frame_of (first_line s) ≡ cond (begins_kind s 1) (some (layout_frame p)) none
+  short_right {p} parent =
+      let first = right 4 s 2 parent in
+      rw (← kind_bytes s 1 (omega (arith, ends_within 6 s e)) (omega arith), first.number) (go first.digits (all_of is_digit (take 2 s)) refl)
     where
-      go : (t : Bool) → all_of is_digit (take 2 s) ≡ t → frame_of (first_line s) ≡ cond (t && eqb (kind_of s) 1) (some (layout_frame (field_at 2 s))) none
-      go true d = short_line s (short_digits s e ∙ rw (d, right 4 s 2 p parent h))
-      go false d = short_none (rw d)
+      go : right_field 4 2 s ≡ true → (t : Bool) → all_of is_digit (take 2 s) ≡ t → frame_of (first_line s) ≡ cond (t && eqb (kind_of s) 1) (some (layout_frame (field_at 2 s))) none
+      go f true d = short_line s (short_digits s e ∙ rw (d, f))
+      go f false d = short_none (rw d)
 
 -- ---- a line that ends after 10 bytes
 
-module _ (s : List ℕ) (a : ends_after 6 s ≡ false) (e : ends_after 10 s ≡ true) (p q : ℕ) (first : FieldRead 4 s 2 p) (second : FieldRead 4 s 6 q) where
+module _ (s : List ℕ) (a : ends_after 6 s ≡ false) (e : ends_after 10 s ≡ true) where
   long_none : (all_of is_digit (take 2 s) && (right_field 4 2 s && right_field 4 6 s)) ≡ false → frame_of (first_line s) ≡ none
   long_none w = no_frame s (no_end 6 s a) (long_digits s e ∙ w) (no_later 10 12 s (omega arith) e)
 
-  pub first_wrong : 65536 ≤ p → frame_of (first_line s) ≡ none
-  first_wrong h = long_none (rw (wrong 4 s 2 p first h, and-false))
+  pub first_wrong : None ≡ number_at 4 2 s → frame_of (first_line s) ≡ none
+  first_wrong w = long_none (rw (wrong 4 s 2 w, and-false))
 
-  pub second_wrong : 65536 ≤ q → frame_of (first_line s) ≡ none
-  second_wrong h = long_none (rw (wrong 4 s 6 q second h) (simp and-false))
+  pub second_wrong : None ≡ number_at 4 6 s → frame_of (first_line s) ≡ none
+  second_wrong w = long_none (rw (wrong 4 s 6 w) (simp and-false))
 
-  pub long_right : p < 65536 → q < 65536 → (r : ℕ) → KindRead s r → frame_of (first_line s) ≡ long_frame (spells r) p q
-  long_right h k r kind =
-      rw (kind 2 (omega arith) (omega arith), kind 3 (omega arith) (omega arith), kind 4 (omega arith) (omega arith), first.value h, second.value k)
-      (go (all_of is_digit (take 2 s)) refl)
+  pub long_right : {p q : ℕ} → Some p ≡ number_at 4 2 s → Some q ≡ number_at 4 6 s → frame_of (first_line s) ≡ long_frame (begins_kind s) p q
+  long_right {p} {q} one two =
+      let long : 2 ≤ length s = omega (arith, ends_within 10 s e) in
+      let first = right 4 s 2 one in
+      let second = right 4 s 6 two in
+      rw (← kind_bytes s 2 long (omega arith), ← kind_bytes s 3 long (omega arith), ← kind_bytes s 4 long (omega arith), first.number, second.number)
+      (go first.digits second.digits (all_of is_digit (take 2 s)) refl)
     where
-      go : (t : Bool) → all_of is_digit (take 2 s) ≡ t
+      go : right_field 4 2 s ≡ true → right_field 4 6 s ≡ true → (t : Bool) → all_of is_digit (take 2 s) ≡ t
           → frame_of (first_line s)
           ≡ cond (t && eqb (kind_of s) 2) (some (job_frame (field_at 2 s) (field_at 6 s)))
           (cond (t && eqb (kind_of s) 4) (some (solo_frame (field_at 2 s) (field_at 6 s)))
           (cond (t && eqb (kind_of s) 3) (some (end_frame (field_at 2 s) (field_at 6 s))) none))
-      go true d = long_line s (long_digits s e ∙ rw (d, right 4 s 2 p first h, right 4 s 6 q second k))
-      go false d = long_none (rw d)
+      go f g true d = long_line s (long_digits s e ∙ rw (d, f, g))
+      go f g false d = long_none (rw d)
 
--- ---- a line with a window
+-- ---- a line that ends after neither
 
--- it has its 0A after 12 bytes
-pub windowed_end : (s : List ℕ) → ends_after 12 s ≡ false → windowed_line s ≡ false
-windowed_end s e = rw (no_end 12 s e)
+module _ (s : List ℕ) (a : ends_after 6 s ≡ false) (b : ends_after 10 s ≡ false) where
+  pub no_ends : ends_after 12 s ≡ false → frame_of (first_line s) ≡ none
+  no_ends e = no_frame s (no_end 6 s a) (no_end 10 s b) (no_end 12 s e)
 
--- its digits are right, and its kind is 05
-module _ (s : List ℕ) (e : ends_after 12 s ≡ true) where
-  wrong_digits : (right_field 4 2 s && (right_field 4 6 s && right_field 2 10 s)) ≡ false → windowed_line s ≡ false
-  wrong_digits w = rw (windowed_digits s e, w, and-false)
+  -- with a window its digits are right, and its kind is 05
+  module _ (e : ends_after 12 s ≡ true) where
+    windowed_none : (all_of is_digit (take 2 s) && (right_field 4 2 s && (right_field 4 6 s && right_field 2 10 s))) ≡ false → frame_of (first_line s) ≡ none
+    windowed_none w = no_frame s (no_end 6 s a) (no_end 10 s b) (windowed_digits s e ∙ w)
 
-  pub top_wrong : (p : ℕ) → FieldRead 4 s 2 p → 65536 ≤ p → windowed_line s ≡ false
-  top_wrong p first h = wrong_digits (rw (wrong 4 s 2 p first h))
+    pub top_wrong : None ≡ number_at 4 2 s → frame_of (first_line s) ≡ none
+    top_wrong w = windowed_none (rw (wrong 4 s 2 w, and-false))
 
-  pub bottom_wrong : (q : ℕ) → FieldRead 4 s 6 q → 65536 ≤ q → windowed_line s ≡ false
-  bottom_wrong q second h = wrong_digits (rw (wrong 4 s 6 q second h) (simp and-false))
+    pub bottom_wrong : None ≡ number_at 4 6 s → frame_of (first_line s) ≡ none
+    bottom_wrong w = windowed_none (rw (wrong 4 s 6 w) (simp and-false))
 
-  pub window_wrong : (v : ℕ) → FieldRead 2 s 10 v → 256 ≤ v → windowed_line s ≡ false
-  window_wrong v third h = wrong_digits (rw (wrong 2 s 10 v third h) (simp and-false))
+    pub window_wrong : None ≡ number_at 2 10 s → frame_of (first_line s) ≡ none
+    window_wrong w = windowed_none (rw (wrong 2 s 10 w) (simp and-false))
 
-  pub windowed_kind : (p q v r : ℕ) → FieldRead 4 s 2 p → FieldRead 4 s 6 q → FieldRead 2 s 10 v → p < 65536 → q < 65536 → v < 256 → KindRead s r → spells r 5 ≡ windowed_line s
-  windowed_kind p q v r first second third h k l kind =
-      rw (windowed_digits s e, right 4 s 2 p first h, right 4 s 6 q second k, right 2 s 10 v third l, and-true) (kind 5 (omega arith) (omega arith))
+    pub windowed_right : {p q v : ℕ} → Some p ≡ number_at 4 2 s → Some q ≡ number_at 4 6 s → Some v ≡ number_at 2 10 s
+        → frame_of (first_line s) ≡ cond (begins_kind s 5) (some (window_frame p q v)) none
+    windowed_right {p} {q} {v} one two three =
+        let first = right 4 s 2 one in
+        let second = right 4 s 6 two in
+        let third = right 2 s 10 three in
+        rw (← kind_bytes s 5 (omega (arith, ends_within 12 s e)) (omega arith), first.number, second.number, third.number)
+        (go first.digits second.digits third.digits (all_of is_digit (take 2 s)) refl)
+      where
+        go : right_field 4 2 s ≡ true → right_field 4 6 s ≡ true → right_field 2 10 s ≡ true → (t : Bool) → all_of is_digit (take 2 s) ≡ t
+            → frame_of (first_line s) ≡ cond (t && eqb (kind_of s) 5) (some (window_frame (field_at 2 s) (field_at 6 s) (window_at 10 s))) none
+        go f g h true d = windowed_line_lem s (windowed_digits s e ∙ rw (d, f, g, h))
+        go f g h false d = windowed_none (rw d)
 
--- its fields
-pub record WindowedFields (s : List ℕ) : Type 0 where
-  pub within : 12 < length s
-  pub top_right : right_field 4 2 s ≡ true
-  pub bottom_right : right_field 4 6 s ≡ true
-  pub window_right : right_field 2 10 s ≡ true
-  pub frame : frame_of (first_line s) ≡ some (window_frame (field_at 2 s) (field_at 6 s) (window_at 10 s))
+-- ---- bytes past the end
 
-pub windowed_fields : (s : List ℕ) → windowed_line s ≡ true → WindowedFields s
-windowed_fields s w =
-    let is = (and-eq-true_iff (digit_line 12 s) (eqb (kind_of s) 5)).0 w in
-    let within = digit_line_within 12 s is.0 in
-    let fields = ((and-eq-true_iff (all_of is_digit (take 2 s)) (right_field 4 2 s && (right_field 4 6 s && right_field 2 10 s))).0 (sym (windowed_digits s (digit_line_end 12 s is.0)) ∙ is.0)).1 in
-    let later = (and-eq-true_iff (right_field 4 2 s) (right_field 4 6 s && right_field 2 10 s)).0 fields in
-    let last = (and-eq-true_iff (right_field 4 6 s) (right_field 2 10 s)).0 later.1 in
-    record { within = within; top_right = later.0; bottom_right = last.0; window_right = last.1; frame = windowed_line_lem s is.0 ∙ rw is.1 }
-
--- ---- no such line
-
-pub no_ends : (s : List ℕ) → ends_after 6 s ≡ false → ends_after 10 s ≡ false → windowed_line s ≡ false → frame_of (first_line s) ≡ none
-no_ends s a b c = go (digit_line 12 s) refl
-  where
-    go : (t : Bool) → digit_line 12 s ≡ t → frame_of (first_line s) ≡ none
-    go true d = windowed_line_lem s d ∙ rw (rw d at c)
-    go false d = no_frame s (no_end 6 s a) (no_end 10 s b) d
+pub none_past : (at : ℕ) (s : List ℕ) → length s ≤ at → frame_of (first_line (drop at s)) ≡ none
+none_past at s h = rw (drop_of_length-le s h) (no_ends [] refl refl refl)

@@ -7,10 +7,8 @@ use Rattle.std.proofs.Math.Option.{Option, none, some}
 use Rattle.std.proofs.Math.Seq.{take-nil}
 use Rattle.model.specs.Lists.{all_of}
 use Rattle.model.specs.Table.{is_digit, number_after, kind_of, field_at, window_at, Line, terminated, unterminated, lead, lines, first_of, first_line, layout_frame, job_frame, solo_frame, window_frame, end_frame, frame_of_kind, frame_of, beyond_windows}
-use Rattle.model.specs.Answers.{frame_case, found, refusal, frame_answer, line_answer}
+use Rattle.model.specs.Answers.{frame_case, found, refusal, line_answer}
 use Rattle.model.specs.declared.Frame.{Frame}
-use Rattle.model.specs.declared.FrameRead.{FrameRead}
-use Rattle.model.specs.declared.FrameRead.TheVariants.{Read}
 use Rattle.model.specs.Table as Table
 use Rattle.frame.specs.Fields.{ends_after}
 
@@ -25,10 +23,6 @@ width (end_frame n m) = 11
 -- n digits and then byte 0A stand at the front
 unfoldable pub digit_line : ℕ → List ℕ → Bool
 digit_line n s = all_of is_digit (take n s) && eqb (get_or s n 0) 10
-
--- 12 digits of kind 05 and then byte 0A
-abbrev pub windowed_line : List ℕ → Bool
-windowed_line s = digit_line 12 s && eqb (kind_of s) 5
 
 -- a part to the end is what is left
 pub rest : (s : List ℕ) (at : ℕ) → take (length s - at) (drop at s) ≡ drop at s
@@ -300,12 +294,9 @@ pub record FrameThere (f : Table.Frame) (o : Option Table.Frame) : Type 0 where
   pub there : o ≡ some f
   pub known : beyond_windows f ≡ false
 
-pub frame_answered : (r : FrameRead) (f : Frame) (line : ℕ) (o : Option Table.Frame) → frame_answer r ≡ line_answer line o → r ≡ Read f → FrameThere (frame_case f) o
-frame_answered r f line none e q =
-    let z : found (frame_case f) ≡ refusal 1 line = ap frame_answer (sym q) ∙ e in
-    let apart : ◌≡◌ {A = ℕ} 0 1 = cc in
-    absurd (omega arith)
-frame_answered r f line (some g) e q = go (beyond_windows g) refl (ap frame_answer (sym q) ∙ e)
+pub frame_answered : (f : Frame) (line : ℕ) (o : Option Table.Frame) → found (frame_case f) ≡ line_answer line o → FrameThere (frame_case f) o
+frame_answered f line none e = let apart : ◌≡◌ {A = ℕ} 0 1 = cc in absurd (omega arith)
+frame_answered f line (some g) e = go (beyond_windows g) refl e
   where
     go : (t : Bool) → beyond_windows g ≡ t → found (frame_case f) ≡ cond t (refusal 9 line) (found g) → FrameThere (frame_case f) (some g)
     go true b z = let apart : ◌≡◌ {A = ℕ} 0 1 = cc in absurd (omega arith)

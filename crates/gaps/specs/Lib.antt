@@ -1,3 +1,2 @@
--- The gaps from each place to the next one of its window, and their laws.
+-- The gaps from each place to the next one of its window.
 pub mod Gaps
-pub mod GapLaws

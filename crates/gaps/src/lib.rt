@@ -4,7 +4,6 @@
 ghost use Rattle.std.specs.Prelude.{ℕ, List, length};
 ghost use Rattle.gaps.specs.Gaps.{WindowsKnown, GapTo, GapsSet};
 
-use buffers::{larger, lesser, wide};
 use model::{Rank, WindowNumber};
 use schedule::{STARTS, window_at};
 
@@ -12,9 +11,7 @@ use schedule::{STARTS, window_at};
 fn gap_to(place: Rank, later: Rank) -> u8
     ensures { GapTo place.0 later.0 result }
 {
-    let at = wide(place.0);
-    let gap = larger(at, wide(later.0)) - at;
-    lesser(gap, 255) as u8
+    later.0.saturating_sub(place.0).min(255) as u8
 }
 
 // Sets the gap from each place to the next of its window, from the last place up.
@@ -23,11 +20,9 @@ fn set_gaps(work: &[u16], gaps: &mut [u8])
     ensures { GapsSet (length gaps.old) work.now gaps.new }
 {
     let mut nearest = [0u16; WindowNumber::LIMIT];
-    let mut p = gaps.len();
-    while 0 < p {
-        p -= 1;
+    for p in (0..gaps.len()).rev() {
         let place = Rank(p as u16);
-        let window = window_at(work, place).0 as usize;
+        let window = usize::from(window_at(work, place).0);
         gaps[p] = gap_to(place, Rank(nearest[window]));
         nearest[window] = place.0;
     }
@@ -37,14 +32,9 @@ fn set_gaps(work: &[u16], gaps: &mut [u8])
 fn set_next(gaps: &mut [u8])
     ensures { (work : List ℕ) → GapsSet (length gaps.old) work gaps.new }
 {
-    let count = gaps.len();
-    let mut p = 0;
-    while p + 1 < count {
-        gaps[p] = 1;
-        p += 1;
-    }
-    if p < count {
-        gaps[p] = 0;
+    gaps.fill(1);
+    if let Some(last) = gaps.last_mut() {
+        *last = 0;
     }
 }
 
@@ -53,7 +43,7 @@ pub fn set_near(starts: &[u16; STARTS], work: &[u16], gaps: &mut [u8])
     requires { WindowsKnown (length gaps.old) work.now }
     ensures { GapsSet (length gaps.old) work.now gaps.new }
 {
-    if wide(starts[1]) == gaps.len() {
+    if usize::from(starts[1]) == gaps.len() {
         set_next(gaps);
     } else {
         set_gaps(work, gaps);

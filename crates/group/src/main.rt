@@ -7,34 +7,24 @@ use std::env::FillError;
 use std::io::{self, Write};
 use std::rt::Env;
 
-// Bytes of input that are read at most.
-const LONGEST: usize = 65536;
-
-// The number that a digit stands for; anything else counts as 0, which no press has for its lanes.
-fn digit_value(byte: u8) -> u8 {
-    if byte < b'0' || b'9' < byte {
-        return 0;
-    }
-    byte - b'0'
-}
-
-// The number of lanes that the one argument names, in one digit.
-fn lanes_named(env: &impl Env) -> LaneCount {
-    let mut word = [0u8; 1];
+// The number that the one argument names, in one digit.
+fn number_named(env: &impl Env) -> Option<u32> {
+    let mut word = [0; 1];
     let Ok(1) = env.arg(1, &mut word) else {
-        return LaneCount(0);
+        return None;
     };
-    let Err(FillError::NotPresent) = env.arg(2, &mut [0u8; 1]) else {
-        return LaneCount(0);
+    let Err(FillError::NotPresent) = env.arg(2, &mut [0; 1]) else {
+        return None;
     };
-    LaneCount(digit_value(word[0]) as usize)
+    char::from(word[0]).to_digit(10)
 }
 
 fn main(rt: HostRuntime) -> io::Result<()> {
-    let lanes = lanes_named(&rt);
-    let mut table = [0u8; LONGEST];
+    // Anything else counts as 0, which no press has for its lanes.
+    let lanes = LaneCount(number_named(&rt).unwrap_or(0) as usize);
+    let mut table = [0; input::LONGEST];
     let length = input::read_full(&mut rt.reader(), &mut table)?;
-    let mut groups = [0u8; run::OUTPUT];
+    let mut groups = [0; run::OUTPUT];
     let printed = run::group_run(&table[..length], &mut groups, lanes);
     io::writer(&rt).write_all(&groups[..printed])
 }

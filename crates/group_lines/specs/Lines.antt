@@ -6,7 +6,7 @@ use mathlib.Core.List.{List, [], ◌∷◌, ◌++◌, map, map-append, flat_map,
 use Rattle.std.proofs.Math.ListN.{take}
 use Rattle.model.specs.Output.{hex, line}
 use Rattle.laws.specs.Lists.{flat_more}
-use Rattle.ancestry.specs.SparseTable.{Searchable}
+use Rattle.tree_laws.specs.WellFormed.{Tree}
 use Rattle.ancestry.specs.Ancestry.{LowestCommonAncestor, LowestOf, lowest_one, lowest_more}
 use Rattle.schedule.specs.InWork.{job_in}
 use Rattle.lines.specs.Writing.{Appended, appended_then}
@@ -73,8 +73,8 @@ module _ (work group : List ℕ) where
     pub lowest_first : (layout : ℕ) → GroupCells ps bottoms work group → layout ≡ bottom_at bottoms work (get_or group 0 0) → LowestSoFar 1 layout
     lowest_first layout g e = rw (more_bottoms 0 g.some, e) (lowest_one ps (bottom_at bottoms work (get_or group 0 0)) (g.bottom_known 0 g.some))
 
-    pub lowest_next : (tree minima : List ℕ) → Searchable ps tree minima → (m : ℕ) → m < length group → (layout next : ℕ) → LowestSoFar m layout → LowestCommonAncestor ps layout (bottom_at bottoms work (get_or group m 0)) next → LowestSoFar (m + 1) next
-    lowest_next tree minima s m h layout next l c = rw (more_bottoms m h) (lowest_more ps s.spanned.tree (map (bottom_at bottoms work) (take m group)) layout (bottom_at bottoms work (get_or group m 0)) next l c)
+    pub lowest_next : Tree ps → (m : ℕ) → m < length group → (layout next : ℕ) → LowestSoFar m layout → LowestCommonAncestor ps layout (bottom_at bottoms work (get_or group m 0)) next → LowestSoFar (m + 1) next
+    lowest_next t m h layout next l c = rw (more_bottoms m h) (lowest_more ps t (map (bottom_at bottoms work) (take m group)) layout (bottom_at bottoms work (get_or group m 0)) next l c)
 
     -- all of them, and the layout at the end of the line
     pub group_ended : (m layout : ℕ) {at a b : ℕ} {out o₁ o₂ : List ℕ} → m ≡ length group → JobsAppended work group m at out a o₁ → LowestSoFar m layout → Appended 5 a (line (hex 4 layout)) o₁ b o₂ → GroupAppended ps bottoms work group at out b o₂

@@ -1,5 +1,6 @@
 -- Group k of an accepted table, as it is read off the members' cells: its line is that of the grouping, and the lines of all groups have room.
-use Rattle.std.specs.Prelude.{ℕ, suc, pred, ◌+◌, ◌-◌, ◌*◌, ◌≤◌, ◌<◌, ◌≡◌, true, length, get_or, drop, replicate, T}
+use Rattle.std.specs.Prelude.{ℕ, suc, pred, ◌+◌, ◌*◌, ◌≤◌, ◌<◌, ◌≡◌, true, length, get_or, drop, T}
+use Rattle.std.specs.Borrow.{MutBor}
 use Rattle.std.proofs.Math.Path.{refl, sym}
 use Rattle.std.proofs.Common.{ap, ◌∙◌, zero-mul, suc-mul, mul-le-mul_right, mul-le-mul_left, arith, take-suc, get_or-take, get_or-drop}
 use mathlib.Core.List.{List, [], ◌∷◌, ◌++◌, map, flat_map, flatten, Memᴰ as Mem}
@@ -16,6 +17,7 @@ use Rattle.laws.specs.Numbers.{numbers_mem, numbers_distinct, numbers_length}
 use Rattle.laws.specs.Counting.{count_length_all}
 use Rattle.tree_laws.specs.Sharing.{Downward, On, own_on}
 use Rattle.ancestry.specs.Ancestry.{LowestOf, lowest_common}
+use Rattle.settle.specs.declared.SettledTree.{SettledTree}
 use Rattle.matching.specs.Grouping.{grouping_run, run_count, run_mem}
 use Rattle.matching.specs.FullGroupings.{layout_own, full_grouping}
 use Rattle.schedule.specs.Schedule.{places, fits, groups_by_place}
@@ -24,7 +26,9 @@ use Rattle.schedule.specs.OfTable.{job_at, schedule_of}
 use Rattle.schedule_laws.specs.Places.{job_known, job_in_lem}
 use Rattle.schedule_laws.proofs.Theorem.{places_are, schedule_groups}
 use Rattle.groups.specs.GroupPlan.{GroupPlan, same_full, same_count, flatten_part, flatten_length}
-use Rattle.lines.specs.Writing.{Appended, Printed, printed_all}
+use Rattle.lines.specs.declared.Writer.{Writer}
+use Rattle.lines.specs.Writing.{Printed}
+use Rattle.lines.specs.Writers.{written, output, Begun, Put, Cleared, printed_by}
 use Rattle.group_lines.specs.Lines.{bottom_at, job_digits, GroupCells, GroupAppended}
 
 -- the lines of the first k groups stand in front of r
@@ -33,11 +37,11 @@ pub record GroupsAppended (tb : Table) (g k : ℕ) (out : List ℕ) (r : ℕ) (o
   pub counted : r ≡ 4 * (k * g) + 7 * k
   pub holds : take r out' ≡ flat_map (group_line tb) (take k (groups_of tb g))
 
-pub groups_none : (tb : Table) (g : ℕ) (out : List ℕ) → GroupsAppended tb g 0 out 0 out
+pub groups_none : (tb : Table) (g : ℕ) (out : List ℕ) (r : ℕ) → r ≡ 0 → GroupsAppended tb g 0 out r out
 unfolding flat_map
-groups_none tb g out = record { sized = refl; counted = omega (arith, zero-mul g); holds = refl }
+groups_none tb g out r e = record { sized = refl; counted = omega (arith, zero-mul g); holds = rw e refl }
 
-module _ (tb : Table) (g : ℕ) (ps tree members bottoms work : List ℕ) (count : ℕ) (p : GroupPlan tb g ps tree members bottoms work count) where
+module _ (tb : Table) (g : ℕ) (ps : List ℕ) (tree : SettledTree) (members bottoms work : List ℕ) (count : ℕ) (p : GroupPlan tb g ps tree members bottoms work count) where
   abbrev by_place : List (List ℕ)
   by_place = groups_by_place (schedule_of tb) g
 
@@ -86,10 +90,10 @@ module _ (tb : Table) (g : ℕ) (ps tree members bottoms work : List ℕ) (count
   pub part_inside : (k : ℕ) → k < count → k * g + g ≤ length members
   part_inside k h = let more : suc k * g ≤ count * g = mul-le-mul_right g h in omega (arith, members_length, more, suc-mul k g)
 
-  -- and behind the members there is none left
-  pub turn_last : (k : ℕ) → k * g ≤ length members → length members ≤ k * g → k ≡ count
+  -- and where no group is left, all of them went before
+  pub turn_last : (k : ℕ) → k * g ≤ length members → length members < k * g + g → k ≡ count
   turn_last k l m = elim (dec_lt k count) [
-    | yes h ↦ absurd (omega (arith, part_inside k h, p.least))
+    | yes h ↦ absurd (omega (arith, part_inside k h))
     | no h ↦ elim (dec_lt count k) [
       | yes e ↦ let more : suc count * g ≤ k * g = mul-le-mul_right g e in absurd (omega (arith, members_length, more, suc-mul count g, p.least))
       | no e ↦ omega arith
@@ -195,10 +199,8 @@ module _ (tb : Table) (g : ℕ) (ps tree members bottoms work : List ℕ) (count
   pub count_room : (out : List ℕ) (r : ℕ) (out' : List ℕ) → output_bytes ≤ length out → GroupsAppended tb g count out r out' → r + 7 ≤ length out'
   count_room out r out' long s = omega (arith, s.counted, s.sized, few_members, few_groups)
 
-  pub groups_printed : (out out₁ out₂ out₃ : List ℕ) (at r : ℕ) → output_bytes ≤ length out → GroupsAppended tb g count out at out₁ → Appended 7 at (group_count_line count) out₁ r out₂ → out₃ ≡ take r out₂ ++ replicate (length out₂ - r) 0 → Printed (group_bytes g tb) out r out₃
+  pub groups_printed : {r : ℕ} {left out' : List ℕ} {out : MutBor (List ℕ)} {w w₁ w₂ : Writer} → Begun out w → GroupsAppended tb g count (output w) (written w₁) (output w₁) → Put 7 (group_count_line count) w₁ w₂ → Cleared w₂ r left → out' ≡ left → Printed (group_bytes g tb) out.now r out'
   unfolding group_bytes
-  groups_printed out out₁ out₂ out₃ at r long s l z =
+  groups_printed b s l z e =
       let all : take count (groups_of tb g) ≡ groups_of tb g = take_all count (groups_of tb g) (omega (arith, p.count_is)) in
-      printed_all (group_bytes g tb) out r out₂ out₃ (l.sized ∙ s.sized) (omega (arith, count_room out at out₁ long s, l.moved, l.sized))
-      (l.holds ∙ rw (s.holds, all, ← p.count_is) refl)
-      z
+      printed_by b (l.appended.sized ∙ s.sized) (l.appended.holds ∙ rw (s.holds, all, ← p.count_is) refl) z e

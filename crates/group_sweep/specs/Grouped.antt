@@ -1,5 +1,5 @@
 -- What a sweep for a press with g lanes makes of a schedule: the groups of the grouping rule, place by place in the members' cells, or the word that one of them is not full.
-use Rattle.std.specs.Prelude.{ℕ, suc, pred, ◌+◌, ◌-◌, ◌*◌, ◌<◌, ◌≤◌, ◌≡◌, Bool, true, false, length, take}
+use Rattle.std.specs.Prelude.{ℕ, suc, pred, ◌+◌, ◌-◌, ◌*◌, ◌<◌, ◌≤◌, ◌≡◌, Bool, true, false, Option, Some, None, length, take}
 use mathlib.Core.List.{List, ◌∷◌, ◌++◌, flatten}
 use Rattle.model.specs.Lists.{without_all, first_passing}
 use Rattle.model.specs.Grouping.{grouping, all_full}
@@ -7,8 +7,8 @@ use Rattle.schedule.specs.Schedule.{Schedule, fits, groups_by_place, Near}
 use Rattle.schedule.specs.InWork.{schedule_in}
 use Rattle.sweep_laws.specs.WorkCells.{FrontKept}
 use Rattle.sweep_laws.specs.Sweeping.{Sweepable, remaining, OnShelves, Sweeping, UpTo, Asking, Turn}
-use Rattle.group_sweep.specs.declared.Grouped as declared
-use Rattle.group_sweep.specs.declared.Grouped.TheVariants as grouped
+use Rattle.std.specs.Option.{MatchOption}
+use Rattle.group_sweep.specs.declared.Progress.{Progress}
 
 -- what it asks: a press that there is, and a cell for each place
 pub record Groupable (n g : ℕ) (starts gaps members work : List ℕ) : Type 0 where
@@ -18,11 +18,11 @@ pub record Groupable (n g : ℕ) (starts gaps members work : List ℕ) : Type 0 
   pub members_length : length members ≡ n
 
 -- what it answers, for the groups gs of the rule
-abbrev pub GroupsAre : ℕ → List (List ℕ) → List ℕ → declared.Grouped → Type 0
-GroupsAre g gs members (grouped.Full k) = (all_full g gs ≡ true) × (k ≡ length gs) × (members ≡ flatten gs)
-GroupsAre g gs members grouped.Short = all_full g gs ≡ false
+abbrev pub GroupsAre : ℕ → List (List ℕ) → List ℕ → Option ℕ → Type 0
+GroupsAre g gs members (Some k) = (all_full g gs ≡ true) × (k ≡ length gs) × (members ≡ flatten gs)
+GroupsAre g gs members None = all_full g gs ≡ false
 
-pub record GroupSwept (n g : ℕ) (starts old : List ℕ) (r : declared.Grouped) (members new : List ℕ) : Type 0 where
+pub record GroupSwept (n g : ℕ) (starts old : List ℕ) (r : Option ℕ) (members new : List ℕ) : Type 0 where
   pub kept : length new ≡ length old
   pub order_kept : take n new ≡ take n old
   pub groups_are : GroupsAre g (groups_by_place (schedule_in n starts old) g) members r
@@ -88,8 +88,8 @@ pub record GroupSteppable (n g : ℕ) (starts gaps : List ℕ) (kept width i nex
   pub shelves : OnShelves schedule n starts gaps work
   pub underway : GroupsUnderway schedule n g kept width i next last k members work
 
--- place i has had its turn: there are k' groups, or one is not full
-pub record GroupStepped (n g : ℕ) (starts gaps : List ℕ) (kept width i next last k : ℕ) (before old : List ℕ) (next' last' k' : ℕ) (short : Bool) (members new : List ℕ) : Type 0 where
+-- place i has had its turn: the sweep has come further, or a group is not full
+pub record GroupStepped (n g : ℕ) (starts gaps : List ℕ) (kept width i next last k : ℕ) (before old : List ℕ) (r : Option Progress) (members new : List ℕ) : Type 0 where
   pub order : FrontKept n old new
-  pub going : short ≡ false → (s : Schedule) → OnShelves s n starts gaps old → GroupsUnderway s n g kept width i next last k before old → GroupsUnderway s n g kept width (i + 1) next' last' k' members new
-  pub stopped : short ≡ true → (s : Schedule) → OnShelves s n starts gaps old → GroupsUnderway s n g kept width i next last k before old → all_full g (groups_by_place s g) ≡ false
+  pub turned : (s : Schedule) → OnShelves s n starts gaps old → GroupsUnderway s n g kept width i next last k before old →
+      MatchOption r (all_full g (groups_by_place s g) ≡ false) (λ p. GroupsUnderway s n g kept width (i + 1) p.reached.next p.reached.last.0 p.groups members new)

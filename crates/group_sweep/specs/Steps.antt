@@ -1,18 +1,17 @@
 -- From place to place: each way that a step can end leaves the sweep at the next place with one group more or none, or tells that a group is not full.
-use Rattle.std.specs.Prelude.{ℕ, suc, pred, ◌+◌, ◌*◌, ◌<◌, ◌≤◌, ◌≡◌, ◌≢◌, Bool, true, false, not, get_or, eqb}
+use Rattle.std.specs.Prelude.{ℕ, suc, pred, ◌+◌, ◌*◌, ◌<◌, ◌≤◌, ◌≡◌, ◌≢◌, Bool, true, false, Some, None, get_or, eqb}
 use Rattle.std.proofs.Math.Path.{refl, sym, ap}
-use Rattle.std.proofs.Common.{◌∙◌, ⊎_elim, arith, suc-mul, le-mul_of_pos_right, length-append}
+use Rattle.std.proofs.Common.{◌∙◌, arith, suc-mul, le-mul_of_pos_right, length-append}
 use Rattle.std.proofs.Math.Bool.{true≢false, and-false, and-eq-true_iff}
 use mathlib.Core.List.{List, [], ◌∷◌, ◌++◌, flatten, append_assoc, append-nil}
 use Rattle.std.proofs.Math.Numerals.{add-one}
 use Rattle.std.proofs.Math.ListN.{length}
-use borrow.Author.Tests.{eq-eqb, ne_eqb, eqb-true, eqb-false, le-ltb}
+use borrow.Author.Tests.{eq-eqb, ne_eqb, le-ltb}
 use Rattle.model.specs.Lists.{all_of, without_all}
 use Rattle.model.specs.Tree.{FFFF}
 use Rattle.model.specs.Jobs.{job_limit}
 use Rattle.model.specs.Grouping.{grouping, all_full}
 use Rattle.matching.specs.Grouping.{grouping_step}
-use Rattle.laws.specs.Booleans.{answers}
 use Rattle.laws.specs.Firsts.{first_none}
 use Rattle.schedule.specs.Schedule.{Schedule, to_at, due_at, base_at, size_at, fits, groups_by_place}
 use Rattle.schedule.specs.InWork.{to_part, mate_part, tree_part}
@@ -22,6 +21,7 @@ use Rattle.sweep_laws.specs.Reaching.{free_kept, shelves_kept}
 use Rattle.sweep_laws.specs.Asking.{asks_free}
 use Rattle.sweep_laws.specs.MadeLaws.{remaining_free, remaining_taken, remaining_same}
 use Rattle.sweep_laws.specs.Steps.{near_place, find_never, fits_none, sweeping_past}
+use Rattle.group_sweep.specs.declared.Progress.{Progress}
 use Rattle.group_sweep.specs.Grouped.{got_by, GroupAsking, GroupTaken, GroupsUnderway, GroupSteppable, GroupStepped}
 
 -- ---- groups that are full
@@ -58,6 +58,10 @@ module _ (n g : ℕ) (starts gaps : List ℕ) (kept width i next last k : ℕ) (
   known : i < n
   known = p.inside
 
+  -- how far the sweep has come then, with so many groups
+  abbrev pub come_to : ℕ → Progress
+  come_to groups = record { reached = record { next = due; last = record { 0 = last₁ } }; groups = groups }
+
   order : FrontKept n old work₁
   order = front_less n (tree_part * n) old work₁ (omega arith) r.front
 
@@ -83,13 +87,13 @@ module _ (n g : ℕ) (starts gaps : List ℕ) (kept width i next last k : ℕ) (
     quiet_cell = rw (← to_is) quiet
 
     -- it is taken
-    stepped_taken : (mate ≡ FFFF → ⊥) → GroupStepped n g starts gaps kept width i next last k before old due last₁ k false before work₁
+    pub stepped_taken : (mate ≡ FFFF → ⊥) → GroupStepped n g starts gaps kept width i next last k before old (Some (come_to k)) before work₁
     stepped_taken other =
         let gone : free_at n work₁ i ≡ false = unfold free_at in rw (le-ltb 0 (get_or work₁ (to_part * n + i) 0) quiet_cell, ne_eqb (get_or work₁ (mate_part * n + i) 0) FFFF (λ e. other (mate-is ∙ e))) refl in
         let rest : remaining n old i ≡ remaining n work₁ (suc i) = sym same ∙ remaining_taken n work₁ i known gone in
         record {
           order = order;
-          going = λ _ s o u. rw add-one
+          turned = λ s o u. rw add-one
               (record {
                 sweeping = sweeping_past s n kept width i due work₁ (reached s u).0 (λ o. true≢false (sym o.1 ∙ gone)) (reached s u).1;
                 up_to = (reached s u).2;
@@ -101,27 +105,19 @@ module _ (n g : ℕ) (starts gaps : List ℕ) (kept width i next last k : ℕ) (
                 members_length = u.members_length;
                 left = rw (← rest) u.left;
               });
-          stopped = λ e. absurd (true≢false (sym e));
         }
 
     -- it is free, and nobody is with it
-    stepped_alone : mate ≡ FFFF → GroupStepped n g starts gaps kept width i next last k before old due last₁ k true before work₁
+    pub stepped_alone : mate ≡ FFFF → GroupStepped n g starts gaps kept width i next last k before old None before work₁
     stepped_alone e =
         let free : free_at n work₁ i ≡ true = unfold free_at in rw (le-ltb 0 (get_or work₁ (to_part * n + i) 0) quiet_cell, eq-eqb (get_or work₁ (mate_part * n + i) 0) FFFF (sym mate-is ∙ e)) refl in
         record {
           order = order;
-          going = λ same. absurd (true≢false same);
-          stopped = λ _ s o u.
+          turned = λ s o u.
               let silent : to_at s i ≡ 0 = omega (arith, (reached s u).1.cells.to_cell i (omega arith) known free, quiet_cell) in
               let none : got_by s n g work₁ i ≡ [] = first_none (pred g) (fits s i) (remaining n work₁ (suc i)) (find_never (fits s i) (remaining n work₁ (suc i)) (λ q. fits_none s i q silent)) in
               too_short s u free (omega (arith, ap length none, p.least));
         }
-
-    pub stepped_quiet : (alone : Bool) → alone ≡ eqb mate FFFF → GroupStepped n g starts gaps kept width i next last k before old due last₁ k alone before work₁
-    stepped_quiet alone is = ⊎_elim
-        (λ (e : eqb mate FFFF ≡ true). rw (is, e) (stepped_alone (eqb-true mate FFFF e)))
-        (λ (e : eqb mate FFFF ≡ false). rw (is, e) (stepped_taken (eqb-false mate FFFF e)))
-        (answers (eqb mate FFFF))
 
   -- ---- it asks
 
@@ -168,11 +164,11 @@ module _ (n g : ℕ) (starts gaps : List ℕ) (kept width i next last k : ℕ) (
         order_new : FrontKept n old new
         order_new = front_both n old work₁ new order (told p.schedule p.shelves p.underway).order
 
-        stepped_full : b ≡ true → GroupStepped n g starts gaps kept width i next last k before old due last₁ (k + 1) false members new
+        pub stepped_full : b ≡ true → GroupStepped n g starts gaps kept width i next last k before old (Some (come_to (k + 1))) members new
         stepped_full e =
             record {
               order = order_new;
-              going = λ _ s o u.
+              turned = λ s o u.
                   let f = (told s o u).full e in
                   let got : List ℕ = got_by s n g work₁ i in
                   let at : (k + 1) * g ≡ k * g + g = rw add-one (suc-mul k g) in
@@ -188,16 +184,7 @@ module _ (n g : ℕ) (starts gaps : List ℕ) (kept width i next last k : ℕ) (
                     members_length = long ∙ u.members_length;
                     left = rw at f.left;
                   });
-              stopped = λ e. absurd (true≢false (sym e));
             }
 
-        stepped_short : b ≡ false → GroupStepped n g starts gaps kept width i next last k before old due last₁ (k + 1) true members new
-        stepped_short e =
-            record {
-              order = order_new;
-              going = λ same. absurd (true≢false same);
-              stopped = λ _ s o u. too_short s u free_here ((told s o u).short e);
-            }
-
-        pub stepped_asked : GroupStepped n g starts gaps kept width i next last k before old due last₁ (k + 1) (not b) members new
-        stepped_asked = ⊎_elim (λ (e : b ≡ true). rw e (stepped_full e)) (λ (e : b ≡ false). rw e (stepped_short e)) (answers b)
+        pub stepped_short : b ≡ false → GroupStepped n g starts gaps kept width i next last k before old None members new
+        stepped_short e = record { order = order_new; turned = λ s o u. too_short s u free_here ((told s o u).short e) }

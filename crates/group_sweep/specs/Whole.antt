@@ -1,7 +1,7 @@
 -- A sweep for more lanes from its first place to its last.
-use Rattle.std.specs.Prelude.{ℕ, pred, ◌+◌, ◌-◌, ◌*◌, ◌<◌, ◌≤◌, ◌≡◌, Bool, true, false, take}
+use Rattle.std.specs.Prelude.{ℕ, pred, ◌+◌, ◌-◌, ◌*◌, ◌<◌, ◌≤◌, ◌≡◌, true, Option, Some, None, take}
 use Rattle.std.proofs.Math.Path.{refl, ap}
-use Rattle.std.proofs.Common.{sym, ◌∙◌, true≢false, arith, take_all, length-take-le, get_or-take, ext_get_or}
+use Rattle.std.proofs.Common.{sym, ◌∙◌, arith, take_all, length-take-le, get_or-take, ext_get_or}
 use mathlib.Core.List.{List, [], flatten, append-nil}
 use Rattle.std.proofs.Math.Nat.{zero-mul}
 use Rattle.std.proofs.Math.ListN.{length}
@@ -20,33 +20,27 @@ use Rattle.sweep_laws.specs.Reaching.{shelves_kept}
 use Rattle.sweep_laws.specs.MadeLaws.{remaining_end}
 use Rattle.sweep_laws.specs.Sweep.{places_are, all_remain, shelves_begin, sweep_begins, tree_cleared}
 use Rattle.group_sweep.specs.Grouped.{Groupable, GroupsAre, GroupSwept, GroupsUnderway, GroupSteppable, GroupStepped}
-use Rattle.group_sweep.specs.declared.Grouped as declared
-use Rattle.group_sweep.specs.declared.Grouped.TheVariants as grouped
+use Rattle.group_sweep.specs.declared.Progress.{Progress}
 
--- the sweep has come from the cells `old`, with the tree cleared, to place i, or stopped at a group that is not full
-pub record GroupsTo (n g : ℕ) (starts gaps : List ℕ) (kept width : ℕ) (before old : List ℕ) (i next last k : ℕ) (short : Bool) (members work : List ℕ) : Type 0 where
+-- the sweep has come from the cells `old`, with the tree cleared, to place i, with k groups, all full
+pub record GroupsTo (n g : ℕ) (starts gaps : List ℕ) (kept width : ℕ) (before old : List ℕ) (i next last k : ℕ) (members work : List ℕ) : Type 0 where
   pub within : i ≤ n
   pub long : length members ≡ length before
   pub order : FrontKept n old work
-  pub going : short ≡ false → (s : Schedule) → OnShelves s n starts gaps old → GroupsUnderway s n g kept width 0 0 0 0 before old → GroupsUnderway s n g kept width i next last k members work
-  pub stopped : short ≡ true → (s : Schedule) → OnShelves s n starts gaps old → GroupsUnderway s n g kept width 0 0 0 0 before old → all_full g (groups_by_place s g) ≡ false
+  pub underway : (s : Schedule) → OnShelves s n starts gaps old → GroupsUnderway s n g kept width 0 0 0 0 before old → GroupsUnderway s n g kept width i next last k members work
 
-pub groups_first : (n g : ℕ) (starts gaps : List ℕ) (kept width : ℕ) (before old : List ℕ) → GroupsTo n g starts gaps kept width before old 0 0 0 0 false before old
-groups_first n g starts gaps kept width before old = record { within = omega arith; long = refl; order = front_refl n old; going = λ _ s o u. u; stopped = λ e. absurd (true≢false (sym e)) }
+pub groups_first : (n g : ℕ) (starts gaps : List ℕ) (kept width : ℕ) (before old : List ℕ) → GroupsTo n g starts gaps kept width before old 0 0 0 0 before old
+groups_first n g starts gaps kept width before old = record { within = omega arith; long = refl; order = front_refl n old; underway = λ s o u. u }
 
-pub groups_next : (n g : ℕ) (starts gaps : List ℕ) (kept width : ℕ) (before old : List ℕ) (i next last k : ℕ) (members work : List ℕ) (next' last' k' : ℕ) (short : Bool) (members' work' : List ℕ) → i < n → length members' ≡ length members
-    → GroupStepped n g starts gaps kept width i next last k members work next' last' k' short members' work' → GroupsTo n g starts gaps kept width before old i next last k false members work → GroupsTo n g starts gaps kept width before old (i + 1) next' last' k' short members' work'
-groups_next n g starts gaps kept width before old i next last k members work next' last' k' short members' work' h same t w =
+pub groups_next : (n g : ℕ) (starts gaps : List ℕ) (kept width : ℕ) (before old : List ℕ) (i next last k : ℕ) (members work : List ℕ) (p : Progress) (members' work' : List ℕ) → i < n → length members' ≡ length members
+    → GroupStepped n g starts gaps kept width i next last k members work (Some p) members' work' → GroupsTo n g starts gaps kept width before old i next last k members work → GroupsTo n g starts gaps kept width before old (i + 1) p.reached.next p.reached.last.0 p.groups members' work'
+groups_next n g starts gaps kept width before old i next last k members work p members' work' h same t w =
     record {
       within = omega arith;
       long = same ∙ w.long;
       order = front_both n old work work' w.order t.order;
-      going = λ e s o u. t.going e s (shelves_kept s n starts gaps old work w.order o) (w.going refl s o u);
-      stopped = λ e s o u. t.stopped e s (shelves_kept s n starts gaps old work w.order o) (w.going refl s o u);
+      underway = λ s o u. t.turned s (shelves_kept s n starts gaps old work w.order o) (w.underway s o u);
     }
-
-pub groups_on : (n g : ℕ) (starts gaps : List ℕ) (kept width : ℕ) (before old : List ℕ) (i i' next last k : ℕ) (short : Bool) (members work : List ℕ) → i' ≡ i → short ≡ false → GroupsTo n g starts gaps kept width before old i next last k short members work → GroupsTo n g starts gaps kept width before old i' next last k false members work
-groups_on n g starts gaps kept width before old i i' next last k short members work same e w = rw (same, ← e) w
 
 module _ (n g : ℕ) (starts gaps : List ℕ) (kept width : ℕ) (before work : List ℕ) (b : Groupable n g starts gaps before work) (shape : ShapeFor n kept width)
     (nodes : List ℕ) (same : length nodes ≡ length (take (length work - tree_part * n) (tree_in n work))) (h : Cleared kept width (take (length work - tree_part * n) (tree_in n work)) nodes) where
@@ -87,7 +81,7 @@ module _ (n g : ℕ) (starts gaps : List ℕ) (kept width : ℕ) (before work : 
       }
 
   -- the running order stays
-  swept : (new : List ℕ) → FrontKept n cleared new → (r : declared.Grouped) (members : List ℕ) → GroupsAre g (groups_by_place s g) members r → GroupSwept n g starts work r members new
+  swept : (new : List ℕ) → FrontKept n cleared new → (r : Option ℕ) (members : List ℕ) → GroupsAre g (groups_by_place s g) members r → GroupSwept n g starts work r members new
   swept new order r members are =
       let room : n ≤ length work = omega (arith, b.sweepable.room) in
       let f : FrontKept n work new = front_both n work cleared new (front_less n (tree_part * n) work cleared (omega arith) change.front) order in
@@ -98,9 +92,9 @@ module _ (n g : ℕ) (starts gaps : List ℕ) (kept width : ℕ) (before work : 
         groups_are = are;
       }
 
-  module _ (i next last k : ℕ) (members new : List ℕ) (w : GroupsTo n g starts gaps kept width before cleared i next last k false members new) where
+  module _ (i next last k : ℕ) (members new : List ℕ) (w : GroupsTo n g starts gaps kept width before cleared i next last k members new) where
     underway : GroupsUnderway s n g kept width i next last k members new
-    underway = w.going refl s shelves begins
+    underway = w.underway s shelves begins
 
     pub groups_steppable : i < n → GroupSteppable n g starts gaps kept width i next last k members new
     groups_steppable below =
@@ -117,18 +111,18 @@ module _ (n g : ℕ) (starts gaps : List ℕ) (kept width : ℕ) (before work : 
     few_groups = omega (arith, underway.left)
 
     -- all places have had their turn: the groups are all, and all are full
-    pub groups_all : n ≤ i → GroupSwept n g starts work (grouped.Full k) members new
+    pub groups_all : n ≤ i → GroupSwept n g starts work (Some k) members new
     groups_all end =
         let done : i ≡ n = omega (arith, w.within) in
         let none : remaining n new i ≡ [] = rw done (remaining_end n new) in
         let all : groups_by_place s g ≡ underway.made = underway.rest ∙ rw (none, grouping_done (pred g) (fits s)) (append-nil underway.made) in
         let whole : k * g ≡ n = omega (arith, underway.left, ap length none) in
-        swept new w.order (grouped.Full k) members (
+        swept new w.order (Some k) members (
           rw all underway.full,
           rw all underway.number,
           rw all (sym (take_all (k * g) members (omega (arith, underway.members_length))) ∙ underway.stands),
         )
 
-  -- a group is not full
-  pub groups_short : (i next last k : ℕ) (short : Bool) (members new : List ℕ) → short ≡ true → GroupsTo n g starts gaps kept width before cleared i next last k short members new → GroupSwept n g starts work grouped.Short members new
-  groups_short i next last k short members new e w = swept new w.order grouped.Short members (w.stopped e s shelves begins)
+    -- a group is not full
+    pub groups_short : (members' new' : List ℕ) → GroupStepped n g starts gaps kept width i next last k members new None members' new' → GroupSwept n g starts work None members' new'
+    groups_short members' new' t = swept new' (front_both n cleared new new' w.order t.order) None members' (t.turned s (shelves_kept s n starts gaps cleared new w.order shelves) underway)

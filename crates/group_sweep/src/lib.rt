@@ -2,21 +2,15 @@
 // other lane.
 #![tactic(auto)]
 
-ghost use Rattle.std.specs.Prelude.{◌≡◌, ℕ, ◌+◌};
+ghost use Rattle.std.specs.Prelude.{ℕ, List};
+ghost use Rattle.std.specs.Option.{is_some};
 ghost use Rattle.schedule.specs.Schedule.{Schedule};
 ghost use Rattle.group_sweep.specs.Grouped.{Groupable, GroupSwept, GroupAsking, GroupTaken, GroupSteppable, GroupStepped};
 
 use model::{LaneCount, Rank};
-use schedule::{NODES, STARTS};
-use segment_tree::{Candidates, Shape};
-use sweep::Reached;
-
-// What a sweep comes to: so many full groups, one after the other in the members' cells, or the word that a group is not full.
-#[derive(Clone, Copy)]
-pub enum Grouped {
-    Full(usize),
-    Short,
-}
+use schedule::{NODES, STARTS, TO};
+use segment_tree::Candidates;
+use sweep::{Partition, Reached};
 
 // A place that asks: the places that can wait in its span, and where that ends.
 #[derive(Clone, Copy)]
@@ -26,73 +20,58 @@ struct Asked {
     to: usize,
 }
 
-// How far a sweep has come: whose turn is next, what is reached, how many groups are made, and whether one is not full.
+// How far a sweep has come: what is reached, and how many groups are made.
 #[derive(Clone, Copy)]
 struct Progress {
-    turn: usize,
     reached: Reached,
     groups: usize,
-    short: bool,
 }
 
-// The group of a place that asks, into the members' cells from `at` on: the place, and the first that wait in its span. Whether it is full.
+// The group of a place that asks, into the members' cells from `at` on: the place, and the first that wait in its span. None where it is not full.
 fn take_group(
+    partition: Partition,
     work: &mut [u16],
-    count: usize,
-    shape: Shape,
     gaps: &[u8],
     asked: Asked,
     lanes: LaneCount,
     members: &mut [u16],
     at: usize,
-) -> bool
-    requires { (s : Schedule) × (next : ℕ) × (base : ℕ) × (size : ℕ) × GroupAsking s count lanes.0 gaps.now shape.kept shape.width base size asked.place.0 asked.candidates.first.0 asked.candidates.last.0 next asked.to at members.old work.old }
-    ensures { (s : Schedule) (next base size : ℕ) → GroupAsking s count lanes.0 gaps.now shape.kept shape.width base size asked.place.0 asked.candidates.first.0 asked.candidates.last.0 next asked.to at members.old work.old → GroupTaken s count lanes.0 shape.kept shape.width asked.place.0 next at work.old members.old result members.new work.new }
+) -> Option<()>
+    requires { (s : Schedule) × (next : ℕ) × (base : ℕ) × (size : ℕ) × GroupAsking s partition.count lanes.0 gaps.now partition.shape.kept partition.shape.width base size asked.place.0 asked.candidates.first.0 asked.candidates.last.0 next asked.to at members.old work.old }
+    ensures { (s : Schedule) (next base size : ℕ) → GroupAsking s partition.count lanes.0 gaps.now partition.shape.kept partition.shape.width base size asked.place.0 asked.candidates.first.0 asked.candidates.last.0 next asked.to at members.old work.old → GroupTaken s partition.count lanes.0 partition.shape.kept partition.shape.width asked.place.0 next at work.old members.old (is_some result) members.new work.new }
 {
     let place = asked.place;
     let to = asked.to;
-    let candidates = asked.candidates;
-    let last = candidates.last;
-    let mut first = candidates.first;
-    sweep::remove_place(work, count, shape, place);
+    let last = asked.candidates.last;
+    let mut first = asked.candidates.first;
+    partition.remove_place(work, place);
     members[at] = place.0;
-    let mut taken = 1;
-    while taken < lanes.0 {
+    for taken in 1..lanes.0 {
         let further = Candidates { first, last };
-        let mate = sweep::find_mate(work, count, shape, place, further, to);
-        if mate.is_none() {
-            return false;
-        }
-        sweep::take_mate(work, count, shape, place, mate);
+        let mate = partition.find_mate(work, place, further, to)?;
+        partition.take_mate(work, place, Some(mate));
         members[at + taken] = mate.0;
         first = schedule::near_to(gaps, mate);
-        taken += 1;
     }
-    true
+    Some(())
 }
 
-// The turn of a place: what is due is reached, and the place, unless it is taken, takes its group.
+// The turn of a place: what is due is reached, and the place, unless it is taken, takes its group. None where that is not full.
 fn group_step(
+    partition: Partition,
     work: &mut [u16],
-    count: usize,
-    starts: &[u16; STARTS],
     gaps: &[u8],
-    shape: Shape,
     lanes: LaneCount,
     members: &mut [u16],
+    place: Rank,
     progress: Progress,
-) -> Progress
-    requires { GroupSteppable count lanes.0 starts.now gaps.now shape.kept shape.width progress.turn progress.reached.next progress.reached.last.0 progress.groups members.old work.old }
-    ensures turn_value { result.turn ≡ progress.turn + 1 }
-    ensures group_stepped { GroupStepped count lanes.0 starts.now gaps.now shape.kept shape.width progress.turn progress.reached.next progress.reached.last.0 progress.groups members.old work.old result.reached.next result.reached.last.0 result.groups result.short members.new work.new }
+) -> Option<Progress>
+    requires { (starts : List ℕ) × GroupSteppable partition.count lanes.0 starts gaps.now partition.shape.kept partition.shape.width place.0 progress.reached.next progress.reached.last.0 progress.groups members.old work.old }
+    ensures { (starts : List ℕ) → GroupSteppable partition.count lanes.0 starts gaps.now partition.shape.kept partition.shape.width place.0 progress.reached.next progress.reached.last.0 progress.groups members.old work.old → GroupStepped partition.count lanes.0 starts gaps.now partition.shape.kept partition.shape.width place.0 progress.reached.next progress.reached.last.0 progress.groups members.old work.old result members.new work.new }
 {
-    let turn = progress.turn;
-    let groups = progress.groups;
-    let reached_before = progress.reached;
-    let place = Rank(turn as u16);
-    let reached = sweep::insert_reached(work, count, shape, place, reached_before);
+    let reached = partition.insert_reached(work, place, progress.reached);
     // The span ends at 0 where the place asks nobody, or is taken.
-    let to = schedule::to_at(work, count, place);
+    let to = schedule::number_in::<TO>(work, partition.count, place);
     if 0 < to {
         let first = schedule::near_to(gaps, place);
         let last = reached.last;
@@ -102,27 +81,23 @@ fn group_step(
             candidates,
             to,
         };
-        let at = groups * lanes.0;
-        let full = take_group(work, count, shape, gaps, asked, lanes, members, at);
-        return Progress {
-            turn: turn + 1,
+        let at = progress.groups * lanes.0;
+        take_group(partition, work, gaps, asked, lanes, members, at)?;
+        return Some(Progress {
             reached,
-            groups: groups + 1,
-            short: !full,
-        };
+            groups: progress.groups + 1,
+        });
     }
     // One that is free and asks nobody has no group.
-    let mate = schedule::mate_at(work, count, place);
-    let short = mate.is_none();
-    Progress {
-        turn: turn + 1,
+    schedule::mate_at(work, partition.count, place)?;
+    Some(Progress {
         reached,
-        groups,
-        short,
-    }
+        ..progress
+    })
 }
 
-// Every place has its turn, in the running order, until a group is not full. `starts` tells by window where its shelf begins, `gaps` by place how far ahead to look first.
+// Every place has its turn, in the running order, until a group is not full: then the answer is None, else how many groups stand one after the other in the members' cells.
+// `starts` tells by window where its shelf begins, `gaps` by place how far ahead to look first.
 pub fn group_sweep(
     work: &mut [u16],
     count: usize,
@@ -130,27 +105,24 @@ pub fn group_sweep(
     gaps: &[u8],
     lanes: LaneCount,
     members: &mut [u16],
-) -> Grouped
+) -> Option<usize>
     requires { Groupable count lanes.0 starts.now gaps.now members.old work.old }
     ensures { GroupSwept count lanes.0 starts.now work.old result members.new work.new }
 {
     let shape = segment_tree::shape_for(count, sweep::longest_shelf(starts));
+    let partition = Partition { count, shape };
     let start = NODES * count;
     segment_tree::clear(&mut work[start..], shape);
     let mut progress = Progress {
-        turn: 0,
         reached: Reached {
             next: 0,
             last: Rank(0),
         },
         groups: 0,
-        short: false,
     };
-    while progress.turn < count {
-        progress = group_step(work, count, starts, gaps, shape, lanes, members, progress);
-        if progress.short {
-            return Grouped::Short;
-        }
+    for turn in 0..count {
+        let place = Rank(turn as u16);
+        progress = group_step(partition, work, gaps, lanes, members, place, progress)?;
     }
-    Grouped::Full(progress.groups)
+    Some(progress.groups)
 }

@@ -1,5 +1,5 @@
 -- The groups of an accepted table in the members' cells, and what is read off them (document 02, 2026-07).
-use Rattle.std.specs.Prelude.{ℕ, zero, suc, ◌+◌, ◌*◌, ◌<◌, ◌≤◌, ◌≡◌, true, false, length, get_or, take, drop, eqb}
+use Rattle.std.specs.Prelude.{ℕ, zero, suc, ◌+◌, ◌*◌, ◌<◌, ◌≤◌, ◌≡◌, true, false, Option, Some, None, length, get_or, take, drop, eqb}
 use Rattle.std.proofs.Common.{sym, ap, ◌∙◌, suc-mul, zero-mul, arith, length-append, take_at, drop_at, drop-drop, eqb-true}
 use Rattle.std.proofs.Math.Bool.{and-eq-true_iff}
 use mathlib.Core.List.{List, [], ◌∷◌, ◌++◌, map, flatten}
@@ -14,11 +14,10 @@ use Rattle.schedule.specs.Schedule.{groups_by_place}
 use Rattle.schedule.specs.OfTable.{job_at, schedule_of, order_cells, Prepared}
 use Rattle.schedule_laws.proofs.Theorem.{schedule_groups}
 use Rattle.group_sweep.specs.Grouped.{GroupsAre, GroupSwept}
-use Rattle.group_sweep.specs.declared.Grouped as declared
-use Rattle.group_sweep.specs.declared.Grouped.TheVariants as grouped
+use Rattle.settle.specs.declared.SettledTree.{SettledTree}
 
 -- the groups of a table stand in the members' cells by place, all full, `count` of them, and its running order in the work cells
-pub record GroupPlan (tb : Table) (g : ℕ) (ps tree members bottoms work : List ℕ) (count : ℕ) : Type 0 where
+pub record GroupPlan (tb : Table) (g : ℕ) (ps : List ℕ) (tree : SettledTree) (members bottoms work : List ℕ) (count : ℕ) : Type 0 where
   pub parents_are : tb.parents ≡ ps
   pub bottoms_are : tb.bottoms ≡ bottoms
   pub table : Accepted tb
@@ -32,9 +31,9 @@ pub record GroupPlan (tb : Table) (g : ℕ) (ps tree members bottoms work : List
   pub count_is : count ≡ length (groups_of tb g)
 
 -- what is made of a table: its groups, or the word that one of them is not full
-abbrev pub GroupsMade : Table → ℕ → List ℕ → List ℕ → List ℕ → declared.Grouped → List ℕ → List ℕ → Type 0
-GroupsMade tb g ps tree bottoms (grouped.Full k) members work = GroupPlan tb g ps tree members bottoms work k
-GroupsMade tb g ps tree bottoms grouped.Short members work = all_full g (groups_of tb g) ≡ false
+abbrev pub GroupsMade : Table → ℕ → List ℕ → SettledTree → List ℕ → Option ℕ → List ℕ → List ℕ → Type 0
+GroupsMade tb g ps tree bottoms (Some k) members work = GroupPlan tb g ps tree members bottoms work k
+GroupsMade tb g ps tree bottoms None members work = all_full g (groups_of tb g) ≡ false
 
 module _ (tb : Table) (a : Accepted tb) (g : ℕ) where
   -- as many members in each by place as by job
@@ -44,12 +43,12 @@ module _ (tb : Table) (a : Accepted tb) (g : ℕ) where
   pub same_count : length (groups_by_place (schedule_of tb) g) ≡ length (groups_of tb g)
   same_count = sym (length-map (groups_by_place (schedule_of tb) g) (map (job_at tb))) ∙ ap length (schedule_groups tb a g)
 
-  pub groups_made : (starts gaps old new : List ℕ) (r : declared.Grouped) (members : List ℕ) → Prepared tb starts gaps old → GroupSwept (jobs tb) g starts old r members new
-      → (ps tree bottoms : List ℕ) → tb.parents ≡ ps → tb.bottoms ≡ bottoms → Spanned ps tree → 2 ≤ g → g ≤ 8 → jobs tb ≤ length old → GroupsMade tb g ps tree bottoms r members new
+  pub groups_made : (starts gaps old new : List ℕ) (r : Option ℕ) (members : List ℕ) → Prepared tb starts gaps old → GroupSwept (jobs tb) g starts old r members new
+      → (ps : List ℕ) (tree : SettledTree) (bottoms : List ℕ) → tb.parents ≡ ps → tb.bottoms ≡ bottoms → Spanned ps tree → 2 ≤ g → g ≤ 8 → jobs tb ≤ length old → GroupsMade tb g ps tree bottoms r members new
   groups_made starts gaps old new r members p w ps tree bottoms parents_are bottoms_are s low high room = by r (rw p.schedule_is at w.groups_are)
     where
-      by : (r : declared.Grouped) → GroupsAre g (groups_by_place (schedule_of tb) g) members r → GroupsMade tb g ps tree bottoms r members new
-      by (grouped.Full k) o =
+      by : (r : Option ℕ) → GroupsAre g (groups_by_place (schedule_of tb) g) members r → GroupsMade tb g ps tree bottoms r members new
+      by (Some k) o =
           record {
             parents_are = parents_are;
             bottoms_are = bottoms_are;
@@ -63,7 +62,7 @@ module _ (tb : Table) (a : Accepted tb) (g : ℕ) where
             members_are = o.2;
             count_is = o.1 ∙ same_count;
           }
-      by grouped.Short o = sym same_full ∙ o
+      by None o = sym same_full ∙ o
 
 -- ---- one group after the other
 

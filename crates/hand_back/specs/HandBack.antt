@@ -1,8 +1,8 @@
 -- The plan handed back by job number, pass by pass: at its own number each job finds its partner and the highest and the deepest layout that they share.
 use Prim.Native.Nat.{ℕ, suc, ◌+◌, ◌≤◌, ◌<◌}
-use Rattle.std.specs.Prelude.{◌≡◌, ◌⊎◌, ◌≢◌, true, false, length, set, take, drop, eqb}
+use Rattle.std.specs.Prelude.{◌≡◌, ◌⊎◌, ◌≢◌, length, set, take, drop}
 use Rattle.std.proofs.Math.Path.{refl, sym}
-use Rattle.std.proofs.Common.{ap, ◌∙◌, inl, inr, ⊎_elim, add-one, take-append-drop, get_or-set_same, take-suc, take_all, drop-cons, ext_get_or, eqb-true}
+use Rattle.std.proofs.Common.{ap, ◌∙◌, inl, inr, add-one, take-append-drop, take-suc, take_all, drop-cons, ext_get_or}
 use mathlib.Core.List.Memᴰ
 use mathlib.Core.List.Memᴰ.{append_cases as mem-append}
 use mathlib.Core.List.Memᴰ.{append_left as mem-left}
@@ -13,13 +13,13 @@ use mathlib.Core.List.{List, [], ◌∷◌, ◌++◌, map, Memᴰ as Mem}
 use Rattle.std.proofs.Math.ListN.{get_or, length-set}
 use Rattle.std.proofs.lemmas.List.{length-map}
 use Rattle.std.proofs.Math.Seq.{get_or-set_other}
-use Rattle.std.proofs.lemmas.Bool.{eqb-false}
+use Rattle.std.proofs.Common.{arith}
+use Rattle.std.proofs.lemmas.Grind.{common_steps}
 use Rattle.model.specs.Lists.{numbers}
 use Rattle.model.specs.Tree.{FFFF}
 use Rattle.model.specs.Jobs.{Table, jobs, highest, deepest_shared}
 use Rattle.model.specs.Greedy.{Pass, pair, single, passes}
 use Rattle.model.specs.Planning.{partner_in, partners, upper, upper_layouts, printed, printed_layouts}
-use Rattle.laws.specs.Booleans.{answers}
 use Rattle.laws.specs.Lists.{pairwise_across}
 use Rattle.laws.specs.Numbers.{numbers_length, numbers_at}
 use Rattle.jobs.specs.Accepted.{Accepted}
@@ -31,6 +31,7 @@ use Rattle.passes.specs.OfTable.{PassIs, plan_pass}
 use Rattle.passes.specs.PlanPass.{one_known, other_known, one_partner, other_partner, one_upper, other_upper, one_printed, other_printed, single_known, single_partner, single_upper, single_printed, Plan, jobs_are, within, plan_read}
 use Rattle.passes.specs.declared.Pass as declared
 use Rattle.passes.specs.declared.Pass.TheVariants as pass
+use Rattle.settle.specs.declared.SettledTree.{SettledTree}
 
 -- the partners with those of a pass written
 abbrev pub partners_with : declared.Pass → List ℕ → List ℕ
@@ -89,33 +90,22 @@ module _ (tb : Table) (a : Accepted tb) where
   -- writing right values into two cells keeps what is right, and makes them right
   two_written : (f : ℕ → ℕ) (cells : List ℕ) (i j x y : ℕ) (l : List ℕ) → i < length cells → j < length cells → x ≡ f i → y ≡ f j
       → ((z : ℕ) → Mem z l → get_or cells z 0 ≡ f z) → (z : ℕ) → Mem z (l ++ i ∷ j ∷ []) → get_or (set (set cells i x) j y) z 0 ≡ f z
-  two_written f cells i j x y l hi hj ex ey right z m = ⊎_elim
-      (λ (e : eqb z j ≡ true). let same = eqb-true z j e in rw same (get_or-set_same (set cells i x) j y 0 (rw (length-set cells i x) hj) ∙ ey))
-      (λ (e : eqb z j ≡ false).
-      let other = eqb-false z j e in
-      get_or-set_other (set cells i x) j z y 0 other
-      ∙ ⊎_elim
-      (λ (q : eqb z i ≡ true). let same = eqb-true z i q in rw same (get_or-set_same cells i x 0 hi ∙ ex))
-      (λ (q : eqb z i ≡ false). let apart = eqb-false z i q in get_or-set_other cells i z x 0 apart ∙ right z (earlier apart other (mem-append l m)))
-      (answers (eqb z i)))
-      (answers (eqb z j))
+  two_written f cells i j x y l hi hj ex ey right z m = among (mem-append l m)
     where
-      earlier : z ≢ i → z ≢ j → Mem z l ⊎ Mem z (i ∷ j ∷ []) → Mem z l
-      earlier p q (inl n) = n
-      earlier p q (inr (here e)) = absurd (p e)
-      earlier p q (inr (there (here e))) = absurd (q e)
-      earlier p q (inr (there (there m))) = elim m [ ]
+      among : Mem z l ⊎ Mem z (i ∷ j ∷ []) → get_or (set (set cells i x) j y) z 0 ≡ f z
+      among (inl n) = let e = right z n in grind (arith, common_steps)
+      among (inr (here e)) = grind (arith, common_steps)
+      among (inr (there (here e))) = grind (arith, common_steps)
+      among (inr (there (there m))) = elim m [ ]
 
   one_written : (f : ℕ → ℕ) (cells : List ℕ) (i x : ℕ) (l : List ℕ) → i < length cells → x ≡ f i → ((z : ℕ) → Mem z l → get_or cells z 0 ≡ f z)
       → (z : ℕ) → Mem z (l ++ i ∷ []) → get_or (set cells i x) z 0 ≡ f z
-  one_written f cells i x l hi ex right z m = ⊎_elim
-      (λ (q : eqb z i ≡ true). let same = eqb-true z i q in rw same (get_or-set_same cells i x 0 hi ∙ ex))
-      (λ (q : eqb z i ≡ false). let apart = eqb-false z i q in get_or-set_other cells i z x 0 apart ∙ right z (⊎_elim (λ n. n) (λ n. absurd (only apart n)) (mem-append l m)))
-      (answers (eqb z i))
+  one_written f cells i x l hi ex right z m = among (mem-append l m)
     where
-      only : z ≢ i → Mem z (i ∷ []) → ⊥
-      only p (here e) = p e
-      only p (there m) = elim m [ ]
+      among : Mem z l ⊎ Mem z (i ∷ []) → get_or (set cells i x) z 0 ≡ f z
+      among (inl n) = let e = right z n in grind (arith, common_steps)
+      among (inr (here e)) = grind (arith, common_steps)
+      among (inr (there m)) = elim m [ ]
 
   -- pass k more
   module _ (k : ℕ) (h : k < length (passes tb)) where
@@ -209,7 +199,7 @@ module _ (tb : Table) (a : Accepted tb) where
 
 -- ---- the whole
 
-module _ (tb : Table) (ps tree highests bottoms work : List ℕ) (count : ℕ) (p : Plan tb ps tree highests bottoms work count) where
+module _ (tb : Table) (ps : List ℕ) (tree : SettledTree) (highests bottoms work : List ℕ) (count : ℕ) (p : Plan tb ps tree highests bottoms work count) where
   module _ (k : ℕ) (h : k < count) where
     pub plan_inside : (x : declared.Pass) → PassRead ps bottoms work k x → Inside x (length bottoms)
     plan_inside x o = rw (jobs_are tb ps tree highests bottoms work count p) (pass_inside tb p.table k (within tb ps tree highests bottoms work count p k h) (plan_pass tb k) refl x (plan_read tb ps tree highests bottoms work count p k h x o))

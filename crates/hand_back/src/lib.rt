@@ -7,10 +7,11 @@ ghost use Rattle.model.specs.Jobs.{Table};
 ghost use Rattle.passes.specs.PlanPass.{Plan};
 ghost use Rattle.hand_back.specs.HandBack.{partners_with, uppers_with, printed_with, Inside, Returned};
 
-use highest::highest_at;
+use ancestry::CommonAncestors;
+use jobs::layout_at;
 use model::{JobNumber, LayoutNumber};
 use passes::Pass;
-use settle::TREE;
+use settle::SettledTree;
 
 // Each of two jobs finds the other.
 fn set_partners(partners: &mut [u16], one: JobNumber, other: JobNumber)
@@ -18,10 +19,8 @@ fn set_partners(partners: &mut [u16], one: JobNumber, other: JobNumber)
     requires other_in_bounds { other.0 < length partners.old }
     ensures { partners.new ≡ set (set partners.old one.0 other.0) other.0 one.0 }
 {
-    let first = one.0 as usize;
-    let second = other.0 as usize;
-    partners[first] = other.0;
-    partners[second] = one.0;
+    partners[usize::from(one.0)] = other.0;
+    partners[usize::from(other.0)] = one.0;
 }
 
 // Both of two jobs find a layout.
@@ -30,10 +29,8 @@ fn set_layout(layouts: &mut [u16], one: JobNumber, other: JobNumber, layout: Lay
     requires other_in_bounds { other.0 < length layouts.old }
     ensures { layouts.new ≡ set (set layouts.old one.0 layout.0) other.0 layout.0 }
 {
-    let first = one.0 as usize;
-    let second = other.0 as usize;
-    layouts[first] = layout.0;
-    layouts[second] = layout.0;
+    layouts[usize::from(one.0)] = layout.0;
+    layouts[usize::from(other.0)] = layout.0;
 }
 
 // A job finds nothing.
@@ -41,8 +38,7 @@ fn set_absent(cells: &mut [u16], job: JobNumber)
     requires { job.0 < length cells.old }
     ensures { cells.new ≡ set cells.old job.0 FFFF }
 {
-    let at = job.0 as usize;
-    cells[at] = model::ABSENT;
+    cells[usize::from(job.0)] = model::ABSENT;
 }
 
 // The jobs of a pass find their partners and layouts. What two jobs share begins at the highest layout of the earlier.
@@ -56,7 +52,7 @@ fn write_pass(pass: Pass, partners: &mut [u16], uppers: &mut [u16], printed: &mu
 {
     match pass {
         Pass::Pair(one, other, lower) => {
-            let upper = highest_at(uppers, one);
+            let upper = layout_at(uppers, one);
             set_partners(partners, one, other);
             set_layout(uppers, one, other, upper);
             set_layout(printed, one, other, lower);
@@ -72,7 +68,7 @@ fn write_pass(pass: Pass, partners: &mut [u16], uppers: &mut [u16], printed: &mu
 // Hands all passes back, into results of one cell for each job. The uppers hold the highest layout of each job at first.
 pub fn hand_back(
     parents: &[u16],
-    tree: &[u16; TREE],
+    tree: &SettledTree,
     bottoms: &[u16],
     work: &[u16],
     count: usize,
@@ -86,11 +82,9 @@ pub fn hand_back(
     ensures { (tb : Table) → Plan tb parents.now tree.now uppers.old bottoms.now work.now count → Returned tb partners.new uppers.new printed.new }
 {
     let mut minima = [model::ABSENT; ancestry::CELLS];
-    ancestry::set_minima(parents, tree, &mut minima);
-    let mut k = 0;
-    while k < count {
-        let pass = passes::pass_at(tree, &minima, bottoms, work, k);
+    let common = CommonAncestors::new(parents, tree, &mut minima);
+    for k in 0..count {
+        let pass = passes::pass_at(&common, bottoms, work, k);
         write_pass(pass, partners, uppers, printed);
-        k += 1;
     }
 }

@@ -5,38 +5,32 @@
 ghost use Rattle.std.specs.Prelude.{◌≡◌};
 ghost use Rattle.harness.specs.Packed.{packed_refusal, packed_settled, packed_read, PackedSettle, PackedTable, copied, CopiedStretch, packed_planned, PackedPlan};
 
-use model::{Planned, Refusal, Settled, TableRead};
+use model::{Counts, Refusal, Totals};
 
 // A refusal as number × 65536 + place.
 fn packed_refusal(refusal: Refusal) -> u32
     ensures { result ≡ packed_refusal «refusal» }
 {
-    let number = refusal.number as u32;
-    let place = refusal.place as u32;
-    number * 65536 + place
+    u32::from(refusal.reason.number()) * 65536 + u32::from(refusal.place)
 }
 
 // 0, or the refusal.
-fn packed_settled(answer: Settled) -> u32
+fn packed_settled(answer: Result<(), Refusal>) -> u32
     ensures { result ≡ packed_settled «answer» }
 {
     match answer {
-        Settled::Done => 0,
-        Settled::Refused(refusal) => packed_refusal(refusal),
+        Ok(()) => 0,
+        Err(refusal) => packed_refusal(refusal),
     }
 }
 
 // Layouts × 65536 + jobs, or 2^32 times the refusal.
-fn packed_read(answer: TableRead) -> u64
+fn packed_read(answer: Result<Counts, Refusal>) -> u64
     ensures { result ≡ packed_read «answer» }
 {
     match answer {
-        TableRead::Read(counts) => {
-            let layouts = counts.layouts as u64;
-            let jobs = counts.jobs as u64;
-            layouts * 65536 + jobs
-        }
-        TableRead::Refused(refusal) => packed_refusal(refusal) as u64 * 4294967296,
+        Ok(counts) => u64::from(counts.layouts) * 65536 + u64::from(counts.jobs),
+        Err(refusal) => u64::from(packed_refusal(refusal)) * 4294967296,
     }
 }
 
@@ -53,8 +47,7 @@ pub extern "C" fn harness_read(
 ) -> u64
     ensures { PackedTable bytes.now parents.old tops.old bottoms.old marks.old windows.old result parents.new tops.new bottoms.new marks.new windows.new }
 {
-    let answer = table::read_table(bytes, parents, tops, bottoms, marks, windows);
-    packed_read(answer)
+    packed_read(table::read_table(bytes, parents, tops, bottoms, marks, windows))
 }
 
 // *Settle layouts*: 0 for done, or a refusal as number × 65536 + place.
@@ -67,22 +60,15 @@ pub extern "C" fn harness_settle(
 ) -> u32
     ensures { PackedSettle parents.now depths.old firsts.old lasts.old result depths.new firsts.new lasts.new }
 {
-    let answer = settle_layouts::settle_layouts(parents, depths, firsts, lasts);
-    packed_settled(answer)
+    packed_settled(settle_layouts::settle_layouts(parents, depths, firsts, lasts))
 }
 
 // Copies the leading numbers of `from` into `to`, as far as there is room.
 fn copy_leading(from: &[u16], to: &mut [u16])
     ensures { to.new ≡ copied from.now to.old }
 {
-    let mut i = 0;
-    while i < from.len() {
-        if to.len() <= i {
-            return;
-        }
-        to[i] = from[i];
-        i += 1;
-    }
+    let count = from.len().min(to.len());
+    to[..count].copy_from_slice(&from[..count]);
 }
 
 // *Shared stretch*: the length of the stretch. Its numbers are copied to `out`, as far as there is room.
@@ -96,17 +82,14 @@ pub extern "C" fn harness_stretch<'a>(first: &'a [u16], second: &'a [u16], out: 
 }
 
 // Pairs × 2^48 + singles × 2^32 + visits, or 2^63 + the refusal.
-fn packed_planned(answer: Planned) -> u64
+fn packed_planned(answer: Result<Totals, Refusal>) -> u64
     ensures { result ≡ packed_planned «answer» }
 {
     match answer {
-        Planned::Done(plan) => {
-            let pairs = plan.pairs as u64;
-            let singles = plan.singles as u64;
-            let visits = plan.visits as u64;
-            pairs * 281474976710656 + singles * 4294967296 + visits
-        }
-        Planned::Refused(refusal) => packed_refusal(refusal) as u64 + 9223372036854775808,
+        Ok(plan) => u64::from(plan.pairs) * 281474976710656
+            + u64::from(plan.singles) * 4294967296
+            + u64::from(plan.visits),
+        Err(refusal) => u64::from(packed_refusal(refusal)) + 9223372036854775808,
     }
 }
 
@@ -126,8 +109,7 @@ pub extern "C" fn harness_plan(
 ) -> u64
     ensures { PackedPlan parents.now tops.now bottoms.now marks.now windows.now partners.old uppers.old printed.old work.old result partners.new uppers.new printed.new work.new }
 {
-    let answer = planner::plan(
+    packed_planned(planner::plan(
         parents, tops, bottoms, marks, windows, partners, uppers, printed, work,
-    );
-    packed_planned(answer)
+    ))
 }

@@ -1,13 +1,14 @@
 -- What is set in the place of tops and marks: each job's highest layout other than 0, and a mark at each job that asks nobody.
 use Rattle.std.specs.Prelude.{ℕ, ◌+◌, ◌<◌, ◌≤◌, ◌≡◌, refl, Bool, cond, ◌&&◌, List, length, get_or, set}
 use Rattle.std.proofs.Math.Path.{sym}
-use Rattle.std.proofs.Common.{◌∙◌, arith, length-set, get_or-set_same, get_or-set_other}
+use Rattle.std.proofs.Common.{◌∙◌, arith, length-set}
 use Rattle.std.proofs.Math.Bool.{true, false, not, and-false, and-true, not-not}
-use Rattle.std.proofs.Math.Decide.{ℕ_discrete}
 use Rattle.std.proofs.Math.Dec.{eqb}
+use Rattle.std.proofs.lemmas.Grind.{common_steps}
 use Rattle.model.specs.Jobs.{Table, jobs, top, bottom, solo, bare, asks, highest}
 use Rattle.tree_laws.specs.Sharing.{highest_is, bare_highest}
-use Rattle.settle.specs.Spanned.{branch_cells, Spanned}
+use Rattle.settle.specs.declared.SettledTree.{SettledTree}
+use Rattle.settle.specs.Spanned.{Spanned}
 use Rattle.jobs.specs.Accepted.{Accepted}
 
 -- a job that asks, by the marks of those that do not
@@ -28,8 +29,8 @@ pub record Columns (tb : Table) (highests quiet : List ℕ) : Type 0 where
 -- ---- one job more
 
 -- what the cells of job j, with bottom b, get: its top is the highest layout unless it is layout 0, where the branch of the bottom is
-pub record HighestSet (tree : List ℕ) (b j : ℕ) (tops marks : List ℕ) (h : ℕ) (tops' marks' : List ℕ) : Type 0 where
-  pub highest_is : h ≡ cond (eqb (get_or tops j 0) 0) (get_or tree (branch_cells + b) 0) (get_or tops j 0)
+pub record HighestSet (tree : SettledTree) (b j : ℕ) (tops marks : List ℕ) (h : ℕ) (tops' marks' : List ℕ) : Type 0 where
+  pub highest_is : h ≡ cond (eqb (get_or tops j 0) 0) (get_or tree.branches b 0) (get_or tops j 0)
   pub top_set : tops' ≡ set tops j h
   pub mark_set : marks' ≡ set marks j (cond (eqb h 0) 1 (get_or marks j 0))
 
@@ -62,9 +63,9 @@ module _ (tb : Table) (a : Accepted tb) where
         asks_at = λ j h. s.asks_at j (omega arith);
       }
 
-  module _ (j : ℕ) (h : j < jobs tb) (tree : List ℕ) (d : Spanned tb.parents tree) (tops marks : List ℕ) (s : SetTo tb j tops marks) where
+  module _ (j : ℕ) (h : j < jobs tb) (tree : SettledTree) (d : Spanned tb.parents tree) (tops marks : List ℕ) (s : SetTo tb j tops marks) where
     -- what the next job's cells get
-    module _ (v : ℕ) (v-is : v ≡ cond (eqb (get_or tops j 0) 0) (get_or tree (branch_cells + bottom tb j) 0) (get_or tops j 0)) (m : ℕ) (m-is : m ≡ cond (eqb v 0) 1 (get_or marks j 0)) where
+    module _ (v : ℕ) (v-is : v ≡ cond (eqb (get_or tops j 0) 0) (get_or tree.branches (bottom tb j) 0) (get_or tops j 0)) (m : ℕ) (m-is : m ≡ cond (eqb v 0) 1 (get_or marks j 0)) where
       pub highest_value : v ≡ highest tb j
       highest_value = v-is ∙ rw (s.top_at j (omega arith), d.branch_at (bottom tb j) (a.bottom_known j h)) (sym (highest_is tb a.tree j (a.downward j h)))
 
@@ -84,14 +85,8 @@ module _ (tb : Table) (a : Accepted tb) where
           record {
             tops_length = rw length-set s.tops_length;
             marks_length = rw length-set s.marks_length;
-            highest_at = λ i l. elim (ℕ_discrete i j) [
-              | yes own ↦ rw (own, get_or-set_same tops j v 0 (omega (arith, s.tops_length))) highest_value
-              | no other ↦ get_or-set_other tops j i v 0 (λ e. other e) ∙ s.highest_at i (omega arith)
-            ];
-            asks_at = λ i l. elim (ℕ_discrete i j) [
-              | yes own ↦ rw (own, get_or-set_same marks j m 0 (omega (arith, s.marks_length))) asks_value
-              | no other ↦ rw (get_or-set_other marks j i m 0 (λ e. other e)) (s.asks_at i (omega arith))
-            ];
-            top_at = λ i l. get_or-set_other tops j i v 0 (λ e. omega arith) ∙ s.top_at i (omega arith);
-            mark_at = λ i l. get_or-set_other marks j i m 0 (λ e. omega arith) ∙ s.mark_at i (omega arith);
+            highest_at = λ i l. grind (arith, common_steps, highest_value);
+            asks_at = λ i l. grind (arith, common_steps, asks_value);
+            top_at = λ i l. grind (arith, common_steps);
+            mark_at = λ i l. grind (arith, common_steps);
           }

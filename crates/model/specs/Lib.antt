@@ -13,5 +13,6 @@ pub mod Table
 pub mod Output
 pub mod Stretch
 pub mod Answers
+pub mod Cells
 pub mod Outcomes
 pub mod Examples

@@ -3,6 +3,8 @@
 
 ghost use Rattle.std.specs.Prelude.{◌≡◌, ◌&&◌, eqb, leb, ltb};
 ghost use Rattle.model.specs.Tree.{FFFF};
+ghost use Rattle.model.specs.Answers.{reason_number};
+ghost use Rattle.model.specs.Cells.{place_in, cell_of};
 ghost use Rattle.model.specs.Jobs.{window_limit};
 ghost use Rattle.model.specs.Grouping.{least_lanes, most_lanes};
 
@@ -10,7 +12,7 @@ ghost use Rattle.model.specs.Grouping.{least_lanes, most_lanes};
 pub const ABSENT: u16 = 0xFFFF;
 
 // The number of a layout, a node of the tree.
-#[derive(Clone, Copy)]
+#[derive(Clone, Copy, PartialEq, Eq, PartialOrd, Ord)]
 pub struct LayoutNumber(pub u16);
 
 impl LayoutNumber {
@@ -24,30 +26,16 @@ impl LayoutNumber {
         self.0 == ABSENT
     }
 
-    // Whether it is the same layout as another.
-    pub fn equals(self, other: LayoutNumber) -> bool
-        ensures { result ≡ eqb self.0 other.0 }
-    {
-        self.0 == other.0
-    }
-
-    // Whether it comes before another in line order.
-    pub fn comes_before(self, other: LayoutNumber) -> bool
-        ensures { result ≡ ltb self.0 other.0 }
-    {
-        self.0 < other.0
-    }
-
     // Whether it is one of so many layouts, numbered from 0.
     pub fn is_among(self, layouts: usize) -> bool
         ensures { result ≡ ltb self.0 layouts }
     {
-        (self.0 as usize) < layouts
+        usize::from(self.0) < layouts
     }
 }
 
 // The number of a job, a downward path in the tree.
-#[derive(Clone, Copy)]
+#[derive(Clone, Copy, PartialEq, Eq, PartialOrd, Ord)]
 pub struct JobNumber(pub u16);
 
 impl JobNumber {
@@ -56,7 +44,7 @@ impl JobNumber {
 }
 
 // The number of a printing window.
-#[derive(Clone, Copy)]
+#[derive(Clone, Copy, PartialEq, Eq, PartialOrd, Ord)]
 pub struct WindowNumber(pub u8);
 
 impl WindowNumber {
@@ -67,12 +55,12 @@ impl WindowNumber {
     pub fn is_known(self) -> bool
         ensures { result ≡ ltb self.0 window_limit }
     {
-        (self.0 as usize) < WindowNumber::LIMIT
+        usize::from(self.0) < Self::LIMIT
     }
 }
 
 // How many lanes a press has.
-#[derive(Clone, Copy)]
+#[derive(Clone, Copy, PartialEq, Eq, PartialOrd, Ord)]
 pub struct LaneCount(pub usize);
 
 impl LaneCount {
@@ -86,41 +74,73 @@ impl LaneCount {
     pub fn is_known(self) -> bool
         ensures { result ≡ (leb least_lanes self.0 && leb self.0 most_lanes) }
     {
-        LaneCount::LEAST <= self.0 && self.0 <= LaneCount::MOST
+        (Self::LEAST..=Self::MOST).contains(&self.0)
     }
 }
 
 // A place in the running order (000: a position in the bottom-up enumeration).
-#[derive(Clone, Copy)]
+#[derive(Clone, Copy, PartialEq, Eq, PartialOrd, Ord)]
 pub struct Rank(pub u16);
 
 impl Rank {
-    // Whether it stands for no place.
-    pub fn is_none(self) -> bool
-        ensures { result ≡ eqb self.0 FFFF }
+    // The place that a cell holds.
+    pub fn in_cell(cell: u16) -> Option<Rank>
+        ensures { result ≡ place_in cell }
     {
-        self.0 == ABSENT
+        if cell == ABSENT {
+            return None;
+        }
+        Some(Rank(cell))
     }
 
-    // Whether it is the same place as another.
-    pub fn equals(self, other: Rank) -> bool
-        ensures { result ≡ eqb self.0 other.0 }
+    // The cell that holds a place, or none.
+    pub fn cell_of(place: Option<Rank>) -> u16
+        ensures { result ≡ cell_of place }
     {
-        self.0 == other.0
-    }
-
-    // Whether it comes before another in the running order; none comes after every place.
-    pub fn comes_before(self, other: Rank) -> bool
-        ensures { result ≡ ltb self.0 other.0 }
-    {
-        self.0 < other.0
+        place.map_or(ABSENT, |place| place.0)
     }
 }
 
-// Why an input is turned away: document 01's number, and the place.
-#[derive(Clone, Copy)]
+// Why an input is turned away, with document 01's number.
+#[derive(Clone, Copy, PartialEq, Eq)]
+pub enum Reason {
+    // A line that is no frame.
+    NoFrame = 1,
+    // A line after the end, or an end without a layout.
+    Misplaced = 2,
+    // More layouts or jobs than a table may have.
+    TooMany = 3,
+    // A parent that is no layout before its own.
+    WrongParent = 4,
+    // A top or a bottom that is no layout.
+    UnknownLayout = 5,
+    // A bottom that is not at or below its top.
+    NotBelow = 6,
+    // An end with wrong counts, or none.
+    WrongEnd = 7,
+    // Lent buffers that are too short or do not fit together.
+    WrongBuffers = 8,
+    // A window that no press has.
+    UnknownWindow = 9,
+    // A number of lanes that no press has.
+    UnknownPress = 13,
+    // No full grouping exists.
+    NoFullGrouping = 14,
+}
+
+impl Reason {
+    // Document 01's number.
+    pub fn number(self) -> u16
+        ensures { result ≡ reason_number self }
+    {
+        self as u16
+    }
+}
+
+// The reason and the place: what a refusal tells.
+#[derive(Clone, Copy, PartialEq, Eq)]
 pub struct Refusal {
-    pub number: u16,
+    pub reason: Reason,
     pub place: u16,
 }
 
@@ -135,32 +155,11 @@ pub enum Frame {
     End(usize, usize),
 }
 
-// What reading a line answers.
-#[derive(Clone, Copy)]
-pub enum FrameRead {
-    Read(Frame),
-    Refused(Refusal),
-}
-
-// What settling the layouts answers.
-#[derive(Clone, Copy)]
-pub enum Settled {
-    Done,
-    Refused(Refusal),
-}
-
 // How many layouts and jobs a table has.
 #[derive(Clone, Copy)]
 pub struct Counts {
     pub layouts: u16,
     pub jobs: u16,
-}
-
-// What reading a table answers.
-#[derive(Clone, Copy)]
-pub enum TableRead {
-    Read(Counts),
-    Refused(Refusal),
 }
 
 // What a plan comes to: its pairs, its singles, and the cells that document 01 counts for its lookups.
@@ -169,11 +168,4 @@ pub struct Totals {
     pub pairs: u16,
     pub singles: u16,
     pub visits: u32,
-}
-
-// What planning answers.
-#[derive(Clone, Copy)]
-pub enum Planned {
-    Done(Totals),
-    Refused(Refusal),
 }

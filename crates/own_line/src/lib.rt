@@ -18,9 +18,10 @@ fn job_width(s: &[u8]) -> usize
     ensures { result ≡ job_width s.now }
 {
     if frame::ends_after(s, LONG_END) {
-        return LONG_LINE;
+        LONG_LINE
+    } else {
+        WINDOW_LINE
     }
-    WINDOW_LINE
 }
 
 // The line of a job that was read, counted from 1. All lines up to it are frames, so that where a line ends tells a layout from a job, and a job with a
@@ -34,16 +35,16 @@ pub fn line_of_job(bytes: &[u8], job: JobNumber) -> u16
     let mut line = 1usize;
     let mut before = job.0;
     while at < bytes.len() {
-        if frame::ends_after(&bytes[at..], LAYOUT_END) {
+        let left = &bytes[at..];
+        if frame::ends_after(left, LAYOUT_END) {
             line += 1;
             at += LAYOUT_LINE;
+        } else if before == 0 {
+            return line as u16;
         } else {
-            if before == 0 {
-                return line as u16;
-            }
             before -= 1;
             line += 1;
-            at += job_width(&bytes[at..]);
+            at += job_width(left);
         }
     }
     0

@@ -20,13 +20,14 @@ use Rattle.schedule_laws.proofs.Theorem.{places_are, schedule_sound, same_shelf}
 use Rattle.sweep_laws.specs.Sweeping.{Sweepable}
 use Rattle.passes.specs.OfTable.{swept_plan, swept_pairs, swept_visits}
 use Rattle.passes.specs.PlanPass.{Plan, TotalsOf}
+use Rattle.settle.specs.declared.SettledTree.{SettledTree}
 
 -- enough work cells for n jobs: the parts of the schedule and the segment tree
 abbrev pub Roomy : ℕ → List ℕ → Type 0
 Roomy n work = tree_part * n + 2 * 2 ^ levels n ≤ length work
 
 -- the plan and its totals
-pub record Made (tb : Table) (ps tree bottoms old : List ℕ) (t : Totals) (highests work : List ℕ) : Type 0 where
+pub record Made (tb : Table) (ps : List ℕ) (tree : SettledTree) (bottoms old : List ℕ) (t : Totals) (highests work : List ℕ) : Type 0 where
   pub kept : length work ≡ length old
   pub plan : Plan tb ps tree highests bottoms work (t.pairs + t.singles)
   pub totals : TotalsOf tb t
@@ -71,7 +72,7 @@ module _ (tb : Table) (a : Accepted tb) where
     pub pairs_few : 2 * pairs ≤ jobs tb
     pairs_few = omega (arith, swept_pairs tb a starts gaps old new pairs visits p w, jobs_counted tb)
 
-    pub made : (ps tree highests bottoms start : List ℕ) → tb.parents ≡ ps → tb.bottoms ≡ bottoms → Spanned ps tree → Highests tb highests → Roomy (jobs tb) start → length old ≡ length start
+    pub made : (ps : List ℕ) (tree : SettledTree) (highests bottoms start : List ℕ) → tb.parents ≡ ps → tb.bottoms ≡ bottoms → Spanned ps tree → Highests tb highests → Roomy (jobs tb) start → length old ≡ length start
         → (t : Totals) → t.pairs ≡ pairs → t.singles ≡ jobs tb - 2 * pairs → t.visits ≡ visits → Made tb ps tree bottoms start t highests new
     made ps tree highests bottoms start parents_are bottoms_are s columns room same t tp ts tv =
         let of : TotalsOf tb t = record {

@@ -23,6 +23,7 @@ use Rattle.matching.specs.PartnersShare.{told, upper_earlier, upper_later}
 use Rattle.passes.specs.Read.{PassCells, PassRead}
 use Rattle.passes.specs.OfTable.{PlanIn, PassIs, plan_pass, pass_among, pass_cells, pass_read}
 use Rattle.passes.specs.declared.Pass as declared
+use Rattle.settle.specs.declared.SettledTree.{SettledTree}
 
 -- a single has no partner
 alone_partner : (ps : List Pass) → Distinct (vertices ps) → (k i : ℕ) → k < length ps → get_or ps k (single 0) ≡ single i → partner_in ps i ≡ FFFF
@@ -94,7 +95,7 @@ module _ (tb : Table) (a : Accepted tb) where
 -- ---- as it is read
 
 -- the plan of a table stands in the work cells, in `count` passes, and its jobs' highest layouts beside it
-pub record Plan (tb : Table) (ps tree highests bottoms work : List ℕ) (count : ℕ) : Type 0 where
+pub record Plan (tb : Table) (ps : List ℕ) (tree : SettledTree) (highests bottoms work : List ℕ) (count : ℕ) : Type 0 where
   pub parents_are : tb.parents ≡ ps
   pub bottoms_are : tb.bottoms ≡ bottoms
   pub table : Accepted tb
@@ -103,7 +104,7 @@ pub record Plan (tb : Table) (ps tree highests bottoms work : List ℕ) (count :
   pub plan : PlanIn tb work
   pub count_is : count ≡ length (passes tb)
 
-module _ (tb : Table) (ps tree highests bottoms work : List ℕ) (count : ℕ) (p : Plan tb ps tree highests bottoms work count) where
+module _ (tb : Table) (ps : List ℕ) (tree : SettledTree) (highests bottoms work : List ℕ) (count : ℕ) (p : Plan tb ps tree highests bottoms work count) where
   -- as many cells as bottoms are as many as jobs
   pub jobs_are : length bottoms ≡ jobs tb
   jobs_are = ap length (sym p.bottoms_are) ∙ p.table.bottoms_length

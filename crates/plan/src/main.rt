@@ -3,13 +3,10 @@
 
 use std::io::{self, Write};
 
-// Bytes of input that are read at most.
-const LONGEST: usize = 65536;
-
 fn main(rt: HostRuntime) -> io::Result<()> {
-    let mut table = [0u8; LONGEST];
+    let mut table = [0; input::LONGEST];
     let length = input::read_full(&mut rt.reader(), &mut table)?;
-    let mut plan = [0u8; run::OUTPUT];
+    let mut plan = [0; run::OUTPUT];
     let printed = run::whole_run(&table[..length], &mut plan);
     io::writer(&rt).write_all(&plan[..printed])
 }

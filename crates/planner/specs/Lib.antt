@@ -1,2 +1,2 @@
-pub mod Copies
 pub mod Planned
+pub mod Columns

@@ -1,21 +1,16 @@
 -- The outcome of *Plan*: refused with nothing changed, or the plan in the results, which no rival beats.
-use Rattle.std.specs.Prelude.{ℕ, ◌≤◌, ◌≡◌, refl, List, ◌++◌, length, take, drop, replicate}
-use Rattle.std.proofs.Common.{sym, ap, ◌∙◌, arith, length-take-le, take_at}
+use Rattle.std.specs.Prelude.{ℕ, ◌≤◌, ◌≡◌, refl, List, ◌++◌, length, take, drop, replicate, Result, Ok}
+use Rattle.std.proofs.Common.{sym, arith, length-take-le, take_at}
 use Rattle.std.proofs.Math.Seq.{take-append_seam, drop-append_seam}
 use Rattle.model.specs.Verdict.{Verdict, accepted, refused, refuses}
 use Rattle.model.specs.Jobs.{Table, table_of, job_limit}
 use Rattle.model.specs.Planning.{work_cells, jobs_verdict}
 use Rattle.model.specs.Answers.{planned_answer}
 use Rattle.model.specs.Outcomes.{PlannedAs}
-use Rattle.model.specs.declared.Planned.{Planned}
-use Rattle.model.specs.declared.JobNumber.{JobNumber}
+use Rattle.model.specs.declared.Refusal.{Refusal}
 use Rattle.model.specs.declared.Totals.{Totals}
-use Rattle.model.specs.declared.Planned.TheVariants as planned
 use Rattle.tree_laws.specs.WellFormed.{Tree}
 use Rattle.jobs.specs.Accepted.{Accepted, Lent, table_accepted}
-use Rattle.jobs.specs.Checks.{check_verdict}
-use Rattle.jobs.specs.declared.JobCheck.{JobCheck}
-use Rattle.jobs.specs.declared.JobCheck.TheVariants as check
 use Rattle.matching.proofs.MaximumAtEveryCut.{our_plan_maximum}
 use Rattle.matching.proofs.EarlierJobsPaired.{earlier_jobs_paired}
 use Rattle.sweep_laws.specs.Room.{sweep_room}
@@ -42,7 +37,7 @@ enough n work few room = omega (arith, room, sweep_room n 12 few)
 -- ---- outcomes
 
 -- a refusal changes nothing lent
-module _ (tb : Table) (partners uppers printed work : List ℕ) (r : Planned) where
+module _ (tb : Table) (partners uppers printed work : List ℕ) (r : Result Totals Refusal) where
   pub refused_as : (v : Verdict) (number place : ℕ) → v ≡ refused number place → planned_answer r ≡ refuses number place → PlannedAs v tb partners uppers printed work r partners uppers printed work
   refused_as v number place e a =
       record {
@@ -55,17 +50,10 @@ module _ (tb : Table) (partners uppers printed work : List ℕ) (r : Planned) wh
         earlier_paired = λ t done. let apart : ◌≡◌ {A = ℕ} 0 1 = cc in absurd (omega arith);
       }
 
--- the job check refuses
-pub refused_job : (tb : Table) (partners uppers printed work : List ℕ) (c : JobCheck) (number : ℕ) (job : JobNumber) → jobs_verdict tb ≡ check_verdict c → c ≡ check.Wrong number job → (r : Planned) → planned_answer r ≡ refuses number job.0 → PlannedAs (jobs_verdict tb) tb partners uppers printed work r partners uppers printed work
-refused_job tb partners uppers printed work c number job e is r a = refused_as tb partners uppers printed work r (jobs_verdict tb) number job.0 (e ∙ ap check_verdict is) a
-
--- the job check accepts
-module _ (ps ts bs ms ws partners uppers printed work : List ℕ) (lent : Lent (table_of ps ts bs ms ws) (length partners) (length uppers) (length printed) (length work)) (few : length ts ≤ job_limit) (t : Tree ps) (c : JobCheck) (e : jobs_verdict (table_of ps ts bs ms ws) ≡ check_verdict c) (is : c ≡ check.Right) where
+-- the jobs are right
+module _ (ps ts bs ms ws partners uppers printed work : List ℕ) (lent : Lent (table_of ps ts bs ms ws) (length partners) (length uppers) (length printed) (length work)) (few : length ts ≤ job_limit) (t : Tree ps) (accepts : jobs_verdict (table_of ps ts bs ms ws) ≡ accepted) where
   abbrev tb : Table
   tb = table_of ps ts bs ms ws
-
-  accepts : jobs_verdict (table_of ps ts bs ms ws) ≡ accepted
-  accepts = e ∙ ap check_verdict is
 
   right : Accepted (table_of ps ts bs ms ws)
   right = table_accepted tb t few (sym lent.bottoms_length) (sym lent.marks_length) (sym lent.windows_length) accepts
@@ -91,7 +79,7 @@ module _ (ps ts bs ms ws partners uppers printed work : List ℕ) (lent : Lent (
         })
 
     pub planned_as : (t : Totals) (partners' uppers' printed' work' : List ℕ) → Filled (table_of ps (take (length ts) us) bs (take (length ts) qs) ws) t partners' uppers' printed' work'
-        → PlannedAs (jobs_verdict (table_of ps ts bs ms ws)) (table_of ps ts bs ms ws) partners uppers printed work (planned.Done t) (partners' ++ drop (length ts) partners) (uppers' ++ drop (length ts) us) (printed' ++ drop (length ts) printed) (work' ++ drop work_cells work)
+        → PlannedAs (jobs_verdict (table_of ps ts bs ms ws)) (table_of ps ts bs ms ws) partners uppers printed work (Ok t) (partners' ++ drop (length ts) partners) (uppers' ++ drop (length ts) us) (printed' ++ drop (length ts) printed) (work' ++ drop work_cells work)
     planned_as totals partners' uppers' printed' work' filled =
         let f : Filled (table_of ps ts bs ms ws) totals partners' uppers' printed' work' = rw (tops_part, marks_part) at filled in
         let rest : drop (length ts) us ≡ drop (length ts) uppers = rw tops-copied (drop-append_seam ts (drop (length ts) uppers)) in

@@ -1,6 +1,6 @@
 -- The layouts and jobs held in the cells: none, one more, and all.
 use Prim.Native.Nat.{ℕ, zero, suc, ◌+◌, ◌-◌, ◌≤◌, ◌<◌}
-use Rattle.std.specs.Prelude.{◌≡◌, refl, ◌≢◌, false, true, List, [], ◌∷◌, ◌++◌, get_or, take, drop, set, replicate}
+use Rattle.std.specs.Prelude.{◌≡◌, refl, false, true, List, [], ◌∷◌, ◌++◌, get_or, take, drop, set, replicate, Option, Some, None, Result, Ok, Err}
 use Rattle.std.proofs.Common.{sym, subst, ◌∙◌, true≢false, append-nil, append_assoc, add-zero, add-one, length-set, length-append, drop-set-lt, take-suc-set, drop-drop, length-take-le, get_or-drop}
 use Rattle.std.proofs.Math.Nat.{zero-add}
 use Rattle.std.proofs.Math.Decide.{dec_lt}
@@ -9,15 +9,13 @@ use Rattle.std.proofs.Math.ListN.{length, get_or-append}
 use Rattle.std.proofs.lemmas.List.{get_or-replicate, get_or_at, set-get_or}
 use Rattle.model.specs.Tree.{FFFF, layout_limit, layouts_from}
 use Rattle.model.specs.Table.{lines, extended, stopped, read_table}
+use Rattle.model.specs.Answers.{reason_number}
 use Rattle.model.specs.declared.Refusal.{Refusal}
 use Rattle.tree_laws.specs.WellFormed.{layouts_more}
 use Rattle.own_line.specs.OwnLine.{job_lines, own_lines_from}
 use Rattle.reading.specs.Steps.{read_from, ended_at, LayoutLine, JobLine, EndLine, Unused, Room, Roomy, BuffersReady, held, Standing, SoFar, read_after, EndRead, LinesRead, Stopped}
 use Rattle.reading.specs.Lines.{no_bytes}
-use Rattle.reading.specs.declared.After.{After}
-use Rattle.reading.specs.declared.After.TheVariants as after
-use Rattle.reading.specs.declared.Lines.{Lines}
-use Rattle.reading.specs.declared.Lines.TheVariants as lines_read
+use Rattle.reading.specs.declared.Ended.{Ended}
 
 -- ---- cells
 
@@ -237,19 +235,9 @@ module _ (bytes parents tops bottoms marks windows : List ℕ) where
 
 -- ---- where the reading stops
 
--- before the end it is refused
-pub stopped_open : (n m ends : ℕ) (a : After) (x : Refusal) (r : Lines) → ends ≡ 0 → r ≡ lines_read.Refused x → Stopped n m ends a x r
-stopped_open n m zero a x r e is = is
-stopped_open n m (suc ends) a x r e is = absurd (omega arith)
-
--- behind it the table is there
-pub stopped_ended : (n m ends : ℕ) (a : After) (x : Refusal) (r : Lines) → ends ≢ 0 → r ≡ lines_read.Ended (record { layouts = n; jobs = m }) a → Stopped n m ends a x r
-stopped_ended n m zero a x r e is = absurd (e refl)
-stopped_ended n m (suc ends) a x r e is = is
-
 module _ (bytes parents tops bottoms marks windows : List ℕ) (at n m : ℕ) where
   -- behind the end, with what stands there
-  read_behind : (ends : ℕ) (s : SoFar bytes parents tops bottoms marks windows at n m (suc ends)) (a : After)
+  read_behind : (ends : ℕ) (s : SoFar bytes parents tops bottoms marks windows at n m (suc ends)) (a : Option Refusal)
       → read_from bytes at (n + m + suc ends + 1) (held parents tops bottoms marks windows n m) s.own true ≡ read_after a (held parents tops bottoms marks windows n m)
       → EndRead bytes parents tops bottoms marks windows n m a
   read_behind ends s a e =
@@ -262,14 +250,18 @@ module _ (bytes parents tops bottoms marks windows : List ℕ) (at n m : ℕ) wh
       }
 
   -- a line is refused
-  pub read_stopped : (ends : ℕ) (s : SoFar bytes parents tops bottoms marks windows at n m ends) (x : Refusal) (r : Lines)
-      → read_from bytes at (n + m + ends + 1) (held parents tops bottoms marks windows n m) s.own (ended_at ends) ≡ stopped x.number x.place
-      → Stopped n m ends (after.Line x) x r → LinesRead bytes parents tops bottoms marks windows r
-  read_stopped zero s x r e is = rw is (s.next ∙ e)
-  read_stopped (suc ends) s x r e is = rw is (read_behind ends s (after.Line x) e)
+  pub read_stopped : (ends : ℕ) (s : SoFar bytes parents tops bottoms marks windows at n m ends) (x : Refusal) (r : Result Ended Refusal)
+      → read_from bytes at (n + m + ends + 1) (held parents tops bottoms marks windows n m) s.own (ended_at ends) ≡ stopped (reason_number x.reason) x.place
+      → Stopped n m ends (Some x) (reason_number x.reason) x.place r → LinesRead bytes parents tops bottoms marks windows r
+  read_stopped zero s x (Err y) e is = rw (is.0, is.1) (s.next ∙ e)
+  read_stopped zero s x (Ok y) e is = absurd is
+  read_stopped (suc ends) s x (Ok y) e is = rw is (read_behind ends s (Some x) e)
+  read_stopped (suc ends) s x (Err y) e is = absurd is
 
   -- no bytes are left
-  pub read_last : (ends : ℕ) (s : SoFar bytes parents tops bottoms marks windows at n m ends) (r : Lines) → length bytes ≤ at
-      → Stopped n m ends after.Nothing (record { number = 7; place = n + m + ends + 1 }) r → LinesRead bytes parents tops bottoms marks windows r
-  read_last zero s r h is = rw is (s.next ∙ no_bytes bytes at (n + m + 0 + 1) (held parents tops bottoms marks windows n m) s.own false h)
-  read_last (suc ends) s r h is = rw is (read_behind ends s after.Nothing (no_bytes bytes at (n + m + suc ends + 1) (held parents tops bottoms marks windows n m) s.own true h))
+  pub read_last : (ends : ℕ) (s : SoFar bytes parents tops bottoms marks windows at n m ends) (r : Result Ended Refusal) → length bytes ≤ at
+      → Stopped n m ends None 7 (n + m + ends + 1) r → LinesRead bytes parents tops bottoms marks windows r
+  read_last zero s (Err y) h is = rw (is.0, is.1) (s.next ∙ no_bytes bytes at (n + m + 0 + 1) (held parents tops bottoms marks windows n m) s.own false h)
+  read_last zero s (Ok y) h is = absurd is
+  read_last (suc ends) s (Ok y) h is = rw is (read_behind ends s None (no_bytes bytes at (n + m + suc ends + 1) (held parents tops bottoms marks windows n m) s.own true h))
+  read_last (suc ends) s (Err y) h is = absurd is

@@ -2,3 +2,4 @@
 pub mod Steps
 pub mod Lines
 pub mod Held
+pub mod Lent

@@ -2,22 +2,24 @@
 use Prim.Native.Nat.{ℕ, zero, suc, ◌+◌, ◌≤◌, ◌<◌}
 use Rattle.std.proofs.Math.Path.{◌≡◌, refl}
 use Rattle.std.proofs.Common.{◌∙◌, arith, drop_of_length-le}
-use Rattle.std.specs.Prelude.{◌≢◌, Bool, List, [], ◌∷◌, ◌++◌, drop, leb}
+use Rattle.std.specs.Prelude.{◌≢◌, Bool, List, [], ◌∷◌, ◌++◌, drop, leb, Result, Ok, Err}
 use Rattle.std.proofs.Math.Bool.{true, false, cond}
 use Rattle.std.proofs.Math.Option.{Option, none, some}
 use Rattle.std.proofs.Math.ListN.{length, length-drop}
 use Rattle.std.proofs.Math.Seq.{drop-drop}
 use borrow.Author.Tests.{le-leb, lt-leb, leb-false, eq-eqb, ne_eqb}
-use Rattle.model.specs.Verdict.{accepted, refused}
+use Rattle.model.specs.Verdict.{refused}
 use Rattle.model.specs.Tree.{layout_limit, right_parent}
 use Rattle.model.specs.Jobs.{Table, jobs, job_limit}
 use Rattle.model.specs.Table.{lines, layout_frame, window_frame, end_frame, is_end, beyond_windows, end_without_layout, content_verdict, frame_verdict, with_job, extended, with_own_line, read, stopped, unless_refused, read_frame, read_lines}
 use Rattle.model.specs.Table as Format
-use Rattle.model.specs.Answers.{found, refusal, line_answer}
+use Rattle.model.specs.Answers.{reason_number, found, refusal, line_answer}
 use Rattle.model.specs.declared.Refusal.{Refusal}
+use Rattle.model.specs.declared.LayoutNumber.{LayoutNumber}
+use Rattle.model.specs.declared.WindowNumber.{WindowNumber}
 use Rattle.frame.specs.Lines.{width, next_line, some_line}
 use Rattle.own_line.specs.OwnLine.{job_line, frame_at, own_lines_from, frame_lines, frame_within}
-use Rattle.reading.specs.Steps.{read_from, ended_at, job_of, LayoutFrame, JobFrame, EndFrame, FrameOutcome, JobLine, StepOutcome}
+use Rattle.reading.specs.Steps.{read_from, ended_at, job_of, mark_of, LayoutFrame, JobFrame, EndFrame, FrameOutcome, JobJudged, JobLine, StepOutcome}
 use Rattle.reading.specs.declared.Step.{Step}
 use Rattle.reading.specs.declared.Step.TheVariants as step
 
@@ -41,20 +43,20 @@ module _ (bytes : List ℕ) (at line : ℕ) (tb : Table) (own : List ℕ) (ended
   frame_read f e = rw ((next_line (drop at bytes) f e).after, e, drop-drop (width f) at bytes)
 
   -- a line that is refused by itself: no frame, or one with a window above 0F
-  pub refused_read : at < length bytes → (x : Refusal) → refusal x.number x.place ≡ line_answer line (frame_at bytes at) → read_from bytes at line tb own ended ≡ stopped x.number x.place
+  pub refused_read : at < length bytes → (x : Refusal) → refusal (reason_number x.reason) x.place ≡ line_answer line (frame_at bytes at) → read_from bytes at line tb own ended ≡ stopped (reason_number x.reason) x.place
   unfolding frame_verdict unless_refused
   refused_read h x answer = go (frame_at bytes at) refl answer
     where
-      beyond : (f : Format.Frame) → frame_at bytes at ≡ some f → (t : Bool) → beyond_windows f ≡ t → refusal x.number x.place ≡ cond t (refusal 9 line) (found f) → read_from bytes at line tb own ended ≡ stopped x.number x.place
+      beyond : (f : Format.Frame) → frame_at bytes at ≡ some f → (t : Bool) → beyond_windows f ≡ t → refusal (reason_number x.reason) x.place ≡ cond t (refusal 9 line) (found f) → read_from bytes at line tb own ended ≡ stopped (reason_number x.reason) x.place
       beyond f e true b z =
-          let number : x.number ≡ 9 = cc in
+          let number : reason_number x.reason ≡ 9 = cc in
           let place : x.place ≡ line = cc in
           frame_read f e ∙ rw (b, number, place)
       beyond f e false b z = let apart : ◌≡◌ {A = ℕ} 0 1 = cc in absurd (omega arith)
 
-      go : (o : Option Format.Frame) → frame_at bytes at ≡ o → refusal x.number x.place ≡ line_answer line o → read_from bytes at line tb own ended ≡ stopped x.number x.place
+      go : (o : Option Format.Frame) → frame_at bytes at ≡ o → refusal (reason_number x.reason) x.place ≡ line_answer line o → read_from bytes at line tb own ended ≡ stopped (reason_number x.reason) x.place
       go none e z =
-          let number : x.number ≡ 1 = cc in
+          let number : reason_number x.reason ≡ 1 = cc in
           let place : x.place ≡ line = cc in
           no_frame_read h e ∙ rw (number, place)
       go (some f) e z = beyond f e (beyond_windows f) refl z
@@ -69,11 +71,10 @@ record IsJob (f : Format.Frame) (t b mark v w : ℕ) : Type 0 where
   wide : width f ≡ w
   counts : (line : ℕ) (later : List ℕ) → job_line line later (some f) ≡ line ∷ later
 
-is_marked : (t b mark : ℕ) → mark ≤ 1 → IsJob (job_of t b mark) t b mark 0 11
+is_marked : (t b : ℕ) (solo : Bool) → IsJob (job_of t b solo) t b (mark_of solo) 0 11
 unfolding extended with_own_line is_end job_line
-is_marked t b zero h = record { extends = λ tb. refl; own_line = λ own line. refl; no_end = refl; wide = refl; counts = λ line later. refl }
-is_marked t b (suc zero) h = record { extends = λ tb. refl; own_line = λ own line. refl; no_end = refl; wide = refl; counts = λ line later. refl }
-is_marked t b (suc (suc mark)) h = absurd (omega arith)
+is_marked t b false = record { extends = λ tb. refl; own_line = λ own line. refl; no_end = refl; wide = refl; counts = λ line later. refl }
+is_marked t b true = record { extends = λ tb. refl; own_line = λ own line. refl; no_end = refl; wide = refl; counts = λ line later. refl }
 
 is_windowed : (t b v : ℕ) → IsJob (window_frame t b v) t b 0 v 13
 unfolding extended with_own_line is_end job_line
@@ -93,9 +94,9 @@ module _ (bytes : List ℕ) (at line : ℕ) (tb : Table) (own : List ℕ) (ended
         ahead = frame_lines bytes at line f e ∙ rw (o.is, j.wide) (j.counts line (own_lines_from bytes (at + w) (suc line)));
       }
 
-  pub step_by_frame : (r : Step) → FrameOutcome line tb own ended f r → StepOutcome bytes at line tb own ended r
+  pub step_by_frame : (r : Result Step Refusal) → FrameOutcome line tb own ended f r → StepOutcome bytes at line tb own ended r
   unfolding unless_refused extended with_own_line is_end job_line
-  step_by_frame (step.Layout p) o =
+  step_by_frame (Ok (step.Layout p)) o =
       record {
         not_ended = o.not_ended;
         within = rw o.is at (frame_within bytes at line f e);
@@ -104,9 +105,9 @@ module _ (bytes : List ℕ) (at line : ℕ) (tb : Table) (own : List ℕ) (ended
         next = frame_read bytes at line tb own ended f e ∙ rw (o.accepts, o.is);
         ahead = frame_lines bytes at line f e ∙ rw (o.is, o.is);
       }
-  step_by_frame (step.Job t b mark) o = (job_step (job_of t.0 b.0 mark) t.0 b.0 mark 0 11 (is_marked t.0 b.0 mark o.1) o.0, o.1)
-  step_by_frame (step.Windowed t b v) o = job_step (window_frame t.0 b.0 v.0) t.0 b.0 0 v.0 13 (is_windowed t.0 b.0 v.0) o
-  step_by_frame step.End o =
+  step_by_frame (Ok (step.Job t b solo)) o = job_step (job_of t.0 b.0 solo) t.0 b.0 (mark_of solo) 0 11 (is_marked t.0 b.0 solo) o
+  step_by_frame (Ok (step.Windowed t b v)) o = job_step (window_frame t.0 b.0 v.0) t.0 b.0 0 v.0 13 (is_windowed t.0 b.0 v.0) o
+  step_by_frame (Ok step.End) o =
       record {
         not_ended = o.not_ended;
         within = rw o.is at (frame_within bytes at line f e);
@@ -114,7 +115,7 @@ module _ (bytes : List ℕ) (at line : ℕ) (tb : Table) (own : List ℕ) (ended
         next = frame_read bytes at line tb own ended f e ∙ rw (o.judged, o.is);
         ahead = frame_lines bytes at line f e ∙ rw o.is;
       }
-  step_by_frame (step.Refused r) o = frame_read bytes at line tb own ended f e ∙ rw o
+  step_by_frame (Err r) o = frame_read bytes at line tb own ended f e ∙ rw o
 
 -- ---- which tests make which verdict
 
@@ -145,28 +146,19 @@ module _ (line : ℕ) (tb : Table) (own : List ℕ) where
           right = right;
         }
 
-  module _ (t b : ℕ) where
-    pub job_beyond : (mark : ℕ) → leb job_limit (jobs tb) ≡ true → frame_verdict line tb own false (job_of t b mark) ≡ refused 3 line
+  module _ (t b : LayoutNumber) where
+    pub job_judged : (solo : Bool) (r : Result Step Refusal) → JobJudged (leb job_limit (jobs tb)) line (step.Job t b solo) r → FrameOutcome line tb own false (job_of t.0 b.0 solo) r
     unfolding frame_verdict content_verdict end_without_layout is_end beyond_windows
-    job_beyond zero h = rw h
-    job_beyond (suc mark) h = rw h
+    job_judged false (Ok s) e = rw e.1 (record { not_ended = refl; accepts = rw e.0; is = refl; room = leb-false job_limit (jobs tb) e.0 })
+    job_judged true (Ok s) e = rw e.1 (record { not_ended = refl; accepts = rw e.0; is = refl; room = leb-false job_limit (jobs tb) e.0 })
+    job_judged false (Err x) e = rw (e.0, e.1, e.2)
+    job_judged true (Err x) e = rw (e.0, e.1, e.2)
 
-    accepts_job : (mark : ℕ) → leb job_limit (jobs tb) ≡ false → frame_verdict line tb own false (job_of t b mark) ≡ accepted
-    unfolding frame_verdict content_verdict end_without_layout is_end beyond_windows
-    accepts_job zero h = rw h
-    accepts_job (suc mark) h = rw h
-
-    pub job_right : (mark : ℕ) → leb job_limit (jobs tb) ≡ false → JobFrame line tb own false (job_of t b mark) (job_of t b mark)
-    job_right mark h = record { not_ended = refl; accepts = accepts_job mark h; is = refl; room = leb-false job_limit (jobs tb) h }
-
-    module _ (v : ℕ) (known : beyond_windows (window_frame t b v) ≡ false) where
-      pub windowed_beyond : leb job_limit (jobs tb) ≡ true → frame_verdict line tb own false (window_frame t b v) ≡ refused 3 line
-      unfolding frame_verdict content_verdict end_without_layout is_end
-      windowed_beyond h = rw (known, h)
-
-      pub windowed_right : leb job_limit (jobs tb) ≡ false → JobFrame line tb own false (window_frame t b v) (window_frame t b v)
-      unfolding frame_verdict content_verdict end_without_layout is_end
-      windowed_right h = record { not_ended = refl; accepts = rw (known, h); is = refl; room = leb-false job_limit (jobs tb) h }
+    pub windowed_judged : (v : WindowNumber) (r : Result Step Refusal) → beyond_windows (window_frame t.0 b.0 v.0) ≡ false → JobJudged (leb job_limit (jobs tb)) line (step.Windowed t b v) r
+        → FrameOutcome line tb own false (window_frame t.0 b.0 v.0) r
+    unfolding frame_verdict content_verdict end_without_layout is_end
+    windowed_judged v (Ok s) known e = rw e.1 (record { not_ended = refl; accepts = rw (known, e.0); is = refl; room = leb-false job_limit (jobs tb) e.0 })
+    windowed_judged v (Err x) known e = rw (known, e.0, e.1, e.2)
 
   module _ (n m : ℕ) where
     pub end_empty : length tb.parents ≡ 0 → frame_verdict line tb own false (end_frame n m) ≡ refused 2 line

@@ -1,20 +1,18 @@
 -- What each step of the reader promises. The table so far is tb, the lines of its jobs are own; the bytes from `at` on are still to be read, the first of their
 -- lines having the number `line`.
-use Rattle.std.specs.Prelude.{ℕ, zero, suc, ◌+◌, ◌-◌, ◌*◌, ◌≤◌, ◌<◌, ◌≡◌, Bool, true, false, List, [], ◌∷◌, ◌++◌, length, get_or, take, drop, replicate}
+use Rattle.std.specs.Prelude.{ℕ, zero, suc, ◌+◌, ◌-◌, ◌*◌, ◌≤◌, ◌<◌, ◌≡◌, Bool, true, false, List, [], ◌∷◌, ◌++◌, length, get_or, take, drop, replicate, Option, Some, None, Result, Ok, Err}
 use Rattle.model.specs.Verdict.{Verdict, accepted, refused}
 use Rattle.model.specs.Tree.{FFFF, layout_limit, right_parent, layouts_from}
 use Rattle.model.specs.Jobs.{Table, table_of, jobs, job_limit}
 use Rattle.model.specs.Planning.{jobs_verdict}
 use Rattle.model.specs.Table.{lines, layout_frame, job_frame, solo_frame, window_frame, end_frame, on_its_line, frame_verdict, with_job, extended, Reading, read, stopped, unless_refused, read_lines, read_table}
 use Rattle.model.specs.Table as Format
+use Rattle.model.specs.Answers.{reason_number}
 use Rattle.model.specs.declared.Refusal.{Refusal}
 use Rattle.own_line.specs.OwnLine.{job_lines, own_lines_from}
 use Rattle.reading.specs.declared.Step.{Step}
 use Rattle.reading.specs.declared.Step.TheVariants as step
-use Rattle.reading.specs.declared.After.{After}
-use Rattle.reading.specs.declared.After.TheVariants as after
-use Rattle.reading.specs.declared.Lines.{Lines}
-use Rattle.reading.specs.declared.Lines.TheVariants as lines_read
+use Rattle.reading.specs.declared.Ended.{Ended}
 
 -- what reading the bytes from `at` on comes to
 abbrev pub read_from : List ℕ → ℕ → ℕ → Table → List ℕ → Bool → Reading
@@ -31,10 +29,20 @@ abbrev pub ended_at : ℕ → Bool
 ended_at zero = false
 ended_at (suc ends) = true
 
--- a job, or with a mark a solo job
-abbrev pub job_of : ℕ → ℕ → ℕ → Format.Frame
-job_of t b zero = job_frame t b
-job_of t b (suc mark) = solo_frame t b
+-- a job, or a solo job
+abbrev pub job_of : ℕ → ℕ → Bool → Format.Frame
+job_of t b false = job_frame t b
+job_of t b true = solo_frame t b
+
+-- the mark of a job: 1 for a solo job
+abbrev pub mark_of : Bool → ℕ
+mark_of false = 0
+mark_of true = 1
+
+-- a job is what it was, or where no job more can be held, refusal 3
+abbrev pub JobJudged : Bool → ℕ → Step → Result Step Refusal → Type 0
+JobJudged full line job (Ok s) = (full ≡ false) × (s ≡ job)
+JobJudged full line job (Err r) = (full ≡ true) × (reason_number r.reason ≡ 3) × (r.place ≡ line)
 
 -- ---- a frame
 
@@ -63,12 +71,16 @@ module _ (line : ℕ) (tb : Table) (own : List ℕ) (ended : Bool) (f : Format.F
     pub some_layout : 0 < length tb.parents
     pub judged : frame_verdict line tb own ended f ≡ on_its_line own (jobs_verdict tb)
 
-  abbrev pub FrameOutcome : Step → Type 0
-  FrameOutcome (step.Layout p) = LayoutFrame p.0
-  FrameOutcome (step.Job t b mark) = JobFrame (job_of t.0 b.0 mark) × (mark ≤ 1)
-  FrameOutcome (step.Windowed t b v) = JobFrame (window_frame t.0 b.0 v.0)
-  FrameOutcome step.End = EndFrame
-  FrameOutcome (step.Refused r) = frame_verdict line tb own ended f ≡ refused r.number r.place
+  abbrev pub FrameOutcome : Result Step Refusal → Type 0
+  FrameOutcome (Ok (step.Layout p)) = LayoutFrame p.0
+  FrameOutcome (Ok (step.Job t b solo)) = JobFrame (job_of t.0 b.0 solo)
+  FrameOutcome (Ok (step.Windowed t b v)) = JobFrame (window_frame t.0 b.0 v.0)
+  FrameOutcome (Ok step.End) = EndFrame
+  FrameOutcome (Err r) = frame_verdict line tb own ended f ≡ refused (reason_number r.reason) r.place
+
+-- in every table with so many layouts and jobs
+abbrev pub FrameJudged : ℕ → ℕ → ℕ → Bool → Format.Frame → Result Step Refusal → Type 0
+FrameJudged layouts jobs ends ended f r = (tb : Table) (own : List ℕ) → length tb.parents ≡ layouts → length tb.tops ≡ jobs → FrameOutcome (layouts + jobs + ends + 1) tb own ended f r
 
 -- ---- a line
 
@@ -98,12 +110,16 @@ module _ (bytes : List ℕ) (at line : ℕ) (tb : Table) (own : List ℕ) (ended
     pub next : read_from bytes at line tb own ended ≡ unless_refused (on_its_line own (jobs_verdict tb)) (read_from bytes (at + 11) (suc line) tb own true)
     pub ahead : own_lines_from bytes at line ≡ []
 
-  abbrev pub StepOutcome : Step → Type 0
-  StepOutcome (step.Layout p) = LayoutLine p.0
-  StepOutcome (step.Job t b mark) = JobLine t.0 b.0 mark 0 11 × (mark ≤ 1)
-  StepOutcome (step.Windowed t b v) = JobLine t.0 b.0 0 v.0 13
-  StepOutcome step.End = EndLine
-  StepOutcome (step.Refused r) = read_from bytes at line tb own ended ≡ stopped r.number r.place
+  abbrev pub StepOutcome : Result Step Refusal → Type 0
+  StepOutcome (Ok (step.Layout p)) = LayoutLine p.0
+  StepOutcome (Ok (step.Job t b solo)) = JobLine t.0 b.0 (mark_of solo) 0 11
+  StepOutcome (Ok (step.Windowed t b v)) = JobLine t.0 b.0 0 v.0 13
+  StepOutcome (Ok step.End) = EndLine
+  StepOutcome (Err r) = read_from bytes at line tb own ended ≡ stopped (reason_number r.reason) r.place
+
+-- in every table with so many layouts and jobs
+abbrev pub LineJudged : List ℕ → ℕ → ℕ → ℕ → ℕ → Result Step Refusal → Type 0
+LineJudged bytes at layouts jobs ends r = (tb : Table) (own : List ℕ) → length tb.parents ≡ layouts → length tb.tops ≡ jobs → StepOutcome bytes at (layouts + jobs + ends + 1) tb own (ended_at ends) r
 
 -- ---- the buffers
 
@@ -184,27 +200,29 @@ pub record SoFar (bytes parents tops bottoms marks windows : List ℕ) (at n m e
 -- ---- what the lines come to
 
 -- what stands after the end makes of the table that was read
-abbrev pub read_after : After → Table → Reading
-read_after after.Nothing tb = read tb
-read_after (after.Line r) tb = stopped r.number r.place
+abbrev pub read_after : Option Refusal → Table → Reading
+read_after None tb = read tb
+read_after (Some r) tb = stopped (reason_number r.reason) r.place
 
 -- what a table with a right end comes to, its jobs having the verdict v
-abbrev pub judged_at_end : List ℕ → Table → After → Verdict → Reading
+abbrev pub judged_at_end : List ℕ → Table → Option Refusal → Verdict → Reading
 judged_at_end bytes tb a v = unless_refused (on_its_line (job_lines 1 (lines bytes)) v) (read_after a tb)
 
 -- the end was read, after n layouts and m jobs
-pub record EndRead (bytes parents tops bottoms marks windows : List ℕ) (n m : ℕ) (a : After) : Type 0 where
+pub record EndRead (bytes parents tops bottoms marks windows : List ℕ) (n m : ℕ) (a : Option Refusal) : Type 0 where
   pub holds : Holds parents tops bottoms marks windows n m
   pub some_layout : 0 < n
   pub standing : Standing (job_lines 1 (lines bytes)) m (n + m)
   pub next : read_table bytes ≡ judged_at_end bytes (held parents tops bottoms marks windows n m) a (jobs_verdict (held parents tops bottoms marks windows n m))
 
 -- what a refusal leaves in the cells is open
-abbrev pub LinesRead : List ℕ → List ℕ → List ℕ → List ℕ → List ℕ → List ℕ → Lines → Type 0
-LinesRead bytes parents tops bottoms marks windows (lines_read.Ended c a) = EndRead bytes parents tops bottoms marks windows c.layouts c.jobs a
-LinesRead bytes parents tops bottoms marks windows (lines_read.Refused r) = read_table bytes ≡ stopped r.number r.place
+abbrev pub LinesRead : List ℕ → List ℕ → List ℕ → List ℕ → List ℕ → List ℕ → Result Ended Refusal → Type 0
+LinesRead bytes parents tops bottoms marks windows (Ok e) = EndRead bytes parents tops bottoms marks windows e.counts.layouts e.counts.jobs e.after
+LinesRead bytes parents tops bottoms marks windows (Err r) = read_table bytes ≡ stopped (reason_number r.reason) r.place
 
--- where the reading stops, after n layouts, m jobs and so many ends: before the end it is refused, behind the end it tells what stands there
-abbrev pub Stopped : ℕ → ℕ → ℕ → After → Refusal → Lines → Type 0
-Stopped n m zero a x r = r ≡ lines_read.Refused x
-Stopped n m (suc ends) a x r = r ≡ lines_read.Ended (record { layouts = n; jobs = m }) a
+-- where the reading stops, after n layouts, m jobs and so many ends: before the end it is refused so, behind the end it tells what stands there
+abbrev pub Stopped : ℕ → ℕ → ℕ → Option Refusal → ℕ → ℕ → Result Ended Refusal → Type 0
+Stopped n m zero a number place (Ok e) = ⊥
+Stopped n m zero a number place (Err x) = (reason_number x.reason ≡ number) × (x.place ≡ place)
+Stopped n m (suc ends) a number place (Ok e) = e ≡ record { counts = record { layouts = n; jobs = m }; after = a }
+Stopped n m (suc ends) a number place (Err x) = ⊥

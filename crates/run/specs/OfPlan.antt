@@ -1,6 +1,6 @@
 -- What is printed is what *Plan* gives for the numbers read (document 01, "The plan"): the lines of the partners and layouts that it hands back, by the
 -- running order, and its totals.
-use Rattle.std.specs.Prelude.{ℕ, ◌<◌, ◌≡◌, Bool, true, false, cond, length, get_or, drop, eqb, ltb}
+use Rattle.std.specs.Prelude.{ℕ, ◌<◌, ◌≡◌, Bool, true, false, cond, Ok, length, get_or, drop, eqb, ltb}
 use Rattle.std.proofs.Math.Path.{refl}
 use Rattle.std.proofs.Common.{ap, ◌∙◌, ⊎_elim, arith}
 use mathlib.Core.List.{List, [], ◌∷◌, ◌++◌, flat_map}
@@ -17,7 +17,6 @@ use Rattle.model.specs.Visits.{cell_count}
 use Rattle.model.specs.Table.{read, read_table}
 use Rattle.model.specs.Output.{pair_line, single_line, totals_line, pass_line, plan_bytes, reading_bytes, run_bytes}
 use Rattle.model.specs.Outcomes.{PlannedAs}
-use Rattle.model.specs.declared.Planned.TheVariants as planned
 use Rattle.model.specs.declared.Totals.{Totals}
 use Rattle.model.specs.Rival.{Pair}
 use Rattle.laws.specs.Booleans.{answers}
@@ -101,12 +100,12 @@ pub run_prints_plan :
     (bytes : List ℕ) (tb : Table)
     → read_table bytes ≡ read tb
     → (partners uppers layouts work : List ℕ) (t : Totals) (partners' uppers' layouts' work' : List ℕ)
-    → PlannedAs (Planning.plan_verdict tb (length partners) (length uppers) (length layouts) (length work)) tb partners uppers layouts work (planned.Done t) partners' uppers' layouts' work'
+    → PlannedAs (Planning.plan_verdict tb (length partners) (length uppers) (length layouts) (length work)) tb partners uppers layouts work (Ok t) partners' uppers' layouts' work'
     → run_bytes bytes ≡ flat_map (held_line tb partners' uppers' layouts') (running_order tb) ++ totals_line t.pairs t.singles t.visits
 unfolding run_bytes reading_bytes plan_bytes
 run_prints_plan bytes tb e partners uppers layouts work t partners' uppers' layouts' work' o = go (Planning.plan_verdict tb (length partners) (length uppers) (length layouts) (length work)) refl o
   where
-    go : (v : Verdict) → Planning.plan_verdict tb (length partners) (length uppers) (length layouts) (length work) ≡ v → PlannedAs v tb partners uppers layouts work (planned.Done t) partners' uppers' layouts' work'
+    go : (v : Verdict) → Planning.plan_verdict tb (length partners) (length uppers) (length layouts) (length work) ≡ v → PlannedAs v tb partners uppers layouts work (Ok t) partners' uppers' layouts' work'
         → run_bytes bytes ≡ flat_map (held_line tb partners' uppers' layouts') (running_order tb) ++ totals_line t.pairs t.singles t.visits
     go (refused number place) v o = let apart : ◌≡◌ {A = ℕ} 0 1 = let r = o.answered in cc in absurd (omega arith)
     go accepted v o =

@@ -1,5 +1,6 @@
 -- The lines of a plan, appended pass by pass.
-use Rattle.std.specs.Prelude.{ℕ, zero, suc, ◌+◌, ◌-◌, ◌*◌, ◌≤◌, ◌<◌, ◌≡◌, length, get_or, replicate}
+use Rattle.std.specs.Prelude.{ℕ, zero, suc, ◌+◌, ◌*◌, ◌≤◌, ◌<◌, ◌≡◌, length, get_or}
+use Rattle.std.specs.Borrow.{MutBor}
 use Rattle.std.proofs.Math.Path.{refl, ap}
 use Rattle.std.proofs.Common.{sym, ◌∙◌, add-one, take-suc}
 use mathlib.Core.List.{List, [], ◌∷◌, ◌++◌, flat_map}
@@ -13,6 +14,7 @@ use Rattle.model.specs.Planning.{pair_count, single_count, pairs, singles}
 use Rattle.model.specs.Output.{pair_line, single_line, totals_line, pass_line, plan_bytes, output_bytes}
 use Rattle.model.specs.declared.Totals.{Totals}
 use Rattle.laws.specs.Lists.{total_more, flat_more}
+use Rattle.settle.specs.declared.SettledTree.{SettledTree}
 use Rattle.jobs.specs.Accepted.{Accepted}
 use Rattle.matching.specs.Partners.{jobs_counted}
 use Rattle.passes.specs.Read.{PassRead}
@@ -21,7 +23,9 @@ use Rattle.highest.specs.Columns.{Highests}
 use Rattle.passes.specs.PlanPass.{one_known, other_known, one_upper, one_printed, Plan, within, plan_read, TotalsOf}
 use Rattle.passes.specs.declared.Pass as declared
 use Rattle.passes.specs.declared.Pass.TheVariants as pass
-use Rattle.lines.specs.Writing.{Appended, Printed, printed_all}
+use Rattle.lines.specs.declared.Writer.{Writer}
+use Rattle.lines.specs.Writing.{Appended, Printed}
+use Rattle.lines.specs.Writers.{written, output, Begun, Put, Cleared, printed_by}
 
 -- how long the line of a pass is, and the line
 abbrev pub line_length : declared.Pass → ℕ
@@ -116,10 +120,10 @@ module _ (tb : Table) (a : Accepted tb) (highests : List ℕ) (high : Highests t
 
 -- ---- the passes in the work cells
 
-module _ (tb : Table) (ps tree highests bottoms work : List ℕ) (count : ℕ) (p : Plan tb ps tree highests bottoms work count) where
-  pub passes_none : (out : List ℕ) → PassesAppended tb 0 out 0 out
+module _ (tb : Table) (ps : List ℕ) (tree : SettledTree) (highests bottoms work : List ℕ) (count : ℕ) (p : Plan tb ps tree highests bottoms work count) where
+  pub passes_none : (out : List ℕ) (r : ℕ) → r ≡ 0 → PassesAppended tb 0 out r out
   unfolding total flat_map
-  passes_none out = record { sized = refl; counted = omega arith; holds = refl }
+  passes_none out r e = record { sized = refl; counted = omega arith; holds = rw e refl }
 
   module _ (k : ℕ) (h : k < count) (x : declared.Pass) (o : PassRead ps bottoms work k x) where
     is : PassIs tb (plan_pass tb k) x
@@ -139,11 +143,9 @@ module _ (tb : Table) (ps tree highests bottoms work : List ℕ) (count : ℕ) (
   unfolding pairs singles
   totals_room k out r out' long s = omega (arith, s.counted, s.sized, total_take pair_count k (passes tb), total_take single_count k (passes tb), jobs_counted tb, p.table.few)
 
-  pub plan_printed : (t : Totals) → TotalsOf tb t → (k : ℕ) → count ≤ k → (out out₁ out₂ out₃ : List ℕ) (at r : ℕ) → output_bytes ≤ length out → PassesAppended tb k out at out₁
-      → Appended 19 at (totals_line t.pairs t.singles t.visits) out₁ r out₂ → out₃ ≡ take r out₂ ++ replicate (length out₂ - r) 0 → Printed (plan_bytes tb) out r out₃
+  pub plan_printed : (t : Totals) → TotalsOf tb t → {r : ℕ} {left out' : List ℕ} {out : MutBor (List ℕ)} {w w₁ w₂ : Writer} → Begun out w → PassesAppended tb count (output w) (written w₁) (output w₁)
+      → Put 19 (totals_line t.pairs t.singles t.visits) w₁ w₂ → Cleared w₂ r left → out' ≡ left → Printed (plan_bytes tb) out.now r out'
   unfolding plan_bytes
-  plan_printed t of k h out out₁ out₂ out₃ at r long s l z =
-      let all : take k (passes tb) ≡ passes tb = take_all k (passes tb) (rw p.count_is at h) in
-      printed_all (plan_bytes tb) out r out₂ out₃ (l.sized ∙ s.sized) (omega (arith, totals_room k out at out₁ long s, l.moved, l.sized))
-      (l.holds ∙ rw (s.holds, all, of.pairs_are, of.singles_are, of.visits_are) refl)
-      z
+  plan_printed t of b s l z e =
+      let all : take count (passes tb) ≡ passes tb = take_all count (passes tb) (omega (arith, p.count_is)) in
+      printed_by b (l.appended.sized ∙ s.sized) (l.appended.holds ∙ rw (s.holds, all, of.pairs_are, of.singles_are, of.visits_are) refl) z e

@@ -1,8 +1,9 @@
 -- A run put together: arrays with room for the jobs of the input, and what the run prints and answers.
-use Rattle.std.specs.Prelude.{ℕ, ◌+◌, ◌*◌, ◌^◌, ◌≤◌, ◌<◌, ◌≡◌, refl, Bool, true, ◌&&◌, List, length, take, replicate, leb}
+use Rattle.std.specs.Prelude.{ℕ, ◌+◌, ◌*◌, ◌^◌, ◌≤◌, ◌<◌, ◌≡◌, refl, Bool, true, ◌&&◌, Result, Ok, Err, List, length, take, replicate, leb}
 use Rattle.std.proofs.Math.Nat.{sub-zero}
 use Rattle.std.proofs.Common.{arith, length-take-le}
 use Rattle.std.proofs.lemmas.List.{length-replicate}
+use Rattle.model.specs.Answers.{reason_number}
 use Rattle.model.specs.Tree.{FFFF, layout_limit}
 use Rattle.model.specs.Jobs.{Table, job_limit}
 use Rattle.model.specs.Grouping.{least_lanes, most_lanes}
@@ -16,13 +17,7 @@ use Rattle.passes.specs.Making.{Roomy}
 use Rattle.lines.specs.Writing.{Printed}
 use Rattle.run.specs.declared.Press.{Press}
 use Rattle.run.specs.declared.Press.TheVariants as press
-
--- a table of so few jobs, or of some, is run in arrays of that size
-abbrev pub few_jobs : ℕ
-few_jobs = 128
-
-abbrev pub some_jobs : ℕ
-some_jobs = 1024
+use Rattle.settle.specs.declared.SettledTree.{SettledTree}
 
 -- clear arrays with room for every job that the input can hold within the limit, and work cells for as many jobs as have room
 pub record ArraysFor (input tops bottoms marks windows work : List ℕ) : Type 0 where
@@ -76,11 +71,20 @@ abbrev pub press_known : Press → Bool
 press_known press.TwoLanes = true
 press_known (press.FullPasses lanes) = leb least_lanes lanes.0 && leb lanes.0 most_lanes
 
+-- what a run has done: it has printed these bytes, or it has written nothing, and they are the line of the refusal
+abbrev pub Told : List ℕ → List ℕ → List ℕ → Result ℕ Refusal → Type 0
+Told bytes output output' (Ok n) = Printed bytes output n output'
+Told bytes output output' (Err r) = (output' ≡ output) × (bytes ≡ refusal_bytes (reason_number r.reason) r.place)
+
+-- once the refusal is printed
+pub told_refused : (bytes output output₁ : List ℕ) (r : Refusal) (n : ℕ) (output₂ : List ℕ) → Told bytes output output₁ (Err r) → Printed (refusal_bytes (reason_number r.reason) r.place) output₁ n output₂ → Printed bytes output n output₂
+told_refused bytes output output₁ r n output₂ t p = rw (t.1, ← t.0) p
+
 -- what the reader turns away is printed for every press
-pub refusal_printed : (x : Press) (t : Reading) (output : List ℕ) (r : Refusal) (n : ℕ) (output' : List ℕ) → t ≡ stopped r.number r.place → Printed (refusal_bytes r.number r.place) output n output' → Printed (press_bytes x t) output n output'
+pub refusal_told : (x : Press) (t : Reading) (output : List ℕ) (r : Refusal) → t ≡ stopped (reason_number r.reason) r.place → Told (press_bytes x t) output output (Err r)
 unfolding reading_bytes group_reading_bytes
-refusal_printed press.TwoLanes t output r n output' e p = rw e p
-refusal_printed (press.FullPasses lanes) t output r n output' e p = rw e p
+refusal_told press.TwoLanes t output r e = (refl, rw e refl)
+refusal_told (press.FullPasses lanes) t output r e = (refl, rw e refl)
 
 -- the plan of a table is what is printed for two lanes
 pub plan_printed : (tb : Table) (output : List ℕ) (r : ℕ) (output' : List ℕ) → Printed (plan_bytes tb) output r output' → Printed (press_bytes press.TwoLanes (read tb)) output r output'
@@ -88,10 +92,10 @@ unfolding reading_bytes
 plan_printed tb output r output' p = p
 
 -- the work cells have room for the jobs that were read
-pub work_roomy : (t : Reading) (input tops bottoms marks windows work parents' tops' bottoms' marks' windows' tree : List ℕ) (n m : ℕ) → ArraysFor input tops bottoms marks windows work → length tops' ≡ length tops → TableHeld t parents' tops' bottoms' marks' windows' tree n m → Roomy (length (take m tops')) work
+pub work_roomy : (t : Reading) (input tops bottoms marks windows work parents' tops' bottoms' marks' windows' : List ℕ) (tree : SettledTree) (n m : ℕ) → ArraysFor input tops bottoms marks windows work → length tops' ≡ length tops → TableHeld t parents' tops' bottoms' marks' windows' tree n m → Roomy (length (take m tops')) work
 work_roomy t input tops bottoms marks windows work parents' tops' bottoms' marks' windows' tree n m a same h =
     rw (length-take-le m tops' h.holds.tops_hold) (a.work_room m (omega (arith, h.holds.tops_hold)) h.holds.few_jobs_lem)
 
 -- what is printed of the table held is printed of the reading
-pub printed_as : (x : Press) (t : Reading) (output : List ℕ) (r : ℕ) (output' parents tops bottoms marks windows tree : List ℕ) (n m : ℕ) → TableHeld t parents tops bottoms marks windows tree n m → Printed (press_bytes x (read (held parents tops bottoms marks windows n m))) output r output' → Printed (press_bytes x t) output r output'
+pub printed_as : (x : Press) (t : Reading) (output : List ℕ) (r : ℕ) (output' parents tops bottoms marks windows : List ℕ) (tree : SettledTree) (n m : ℕ) → TableHeld t parents tops bottoms marks windows tree n m → Printed (press_bytes x (read (held parents tops bottoms marks windows n m))) output r output' → Printed (press_bytes x t) output r output'
 printed_as x t output r output' parents tops bottoms marks windows tree n m h p = rw h.whole p

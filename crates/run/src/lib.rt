@@ -4,22 +4,29 @@
 
 mod print;
 
-ghost use Rattle.std.specs.Prelude.{◌≡◌, true, ◌*◌, ◌≤◌, length};
-ghost use Rattle.model.specs.Jobs.{Table, table_of};
+ghost use Rattle.std.specs.Prelude.{◌≡◌, true, ◌<◌, replicate};
+ghost use Rattle.model.specs.Answers.{reason_number};
+ghost use Rattle.model.specs.Tree.{FFFF};
+ghost use Rattle.model.specs.Jobs.{Table};
 ghost use Rattle.model.specs.Table.{read, read_table};
-ghost use Rattle.model.specs.Output.{plan_bytes, refusal_bytes, group_reading_bytes, output_bytes};
+ghost use Rattle.model.specs.Output.{plan_bytes, refusal_bytes, group_reading_bytes};
 ghost use Rattle.model.specs.Outcomes.{RunOutcome, GroupRunOutcome};
 ghost use Rattle.settle.specs.Spanned.{Spanned};
 ghost use Rattle.jobs.specs.Accepted.{Accepted};
+ghost use Rattle.jobs.specs.Columns.{table_with, jobs_in, SameColumns};
+ghost use Rattle.reading.specs.Steps.{BuffersReady};
+ghost use Rattle.table.specs.Whole.{LinesOutcome};
 ghost use Rattle.lines.specs.Writing.{Printed};
 ghost use Rattle.passes.specs.Making.{Roomy};
 ghost use Rattle.groups.specs.GroupPlan.{GroupsMade};
-ghost use Rattle.run.specs.Whole.{ArraysFor, press_known, press_bytes, few_jobs, some_jobs};
+ghost use Rattle.run.specs.Whole.{ArraysFor, press_known, press_bytes, Told};
 ghost use Rattle.run.specs.Presses.{PressOutcome};
 
-use group_sweep::Grouped;
-use model::{JobNumber, LaneCount, LayoutNumber, Refusal, TableRead};
-use settle::TREE;
+use buffers::TableBuffers;
+use jobs::JobColumns;
+use lines::Writer;
+use model::{Counts, JobNumber, LaneCount, LayoutNumber, Reason, Refusal};
+use settle::SettledTree;
 
 // Bytes of output that the whole run needs.
 pub const OUTPUT: usize = 40960;
@@ -30,9 +37,13 @@ const FEW: usize = 128;
 
 const FEW_BYTES: usize = FEW * frame::LONG_LINE;
 
+const FEW_WORK: usize = 8 * FEW;
+
 const SOME: usize = 1024;
 
 const SOME_BYTES: usize = SOME * frame::LONG_LINE;
+
+const SOME_WORK: usize = 8 * SOME;
 
 // The press that a run is for: one with two lanes, which runs a job alone where it has no partner, or one that takes full passes alone.
 #[derive(Clone, Copy)]
@@ -41,98 +52,116 @@ enum Press {
     FullPasses(LaneCount),
 }
 
-// Whether there are such presses.
-fn press_known(press: Press) -> bool
-    ensures { result ≡ press_known «press» }
-{
-    match press {
-        Press::TwoLanes => true,
-        Press::FullPasses(lanes) => lanes.is_known(),
+impl Press {
+    // Whether there are such presses.
+    fn is_known(self) -> bool
+        ensures { result ≡ press_known self }
+    {
+        match self {
+            Press::TwoLanes => true,
+            Press::FullPasses(lanes) => lanes.is_known(),
+        }
     }
 }
 
+// A press that there is.
+#[derive(Clone, Copy)]
+struct KnownPress {
+    press: Press,
+    ghost known: { press_known press ≡ true },
+}
+
 // Prints a refusal.
-fn print_refusal(output: &mut [u8], refusal: Refusal) -> usize
-    requires { output_bytes ≤ length output.old }
-    ensures { Printed (refusal_bytes refusal.number refusal.place) output.old result output.new }
+fn print_refusal(output: &mut [u8; OUTPUT], refusal: Refusal) -> usize
+    ensures { Printed (refusal_bytes (reason_number refusal.reason) refusal.place) output.old result output.new }
 {
-    let digits = lines::DIGITS;
-    let length = lines::put_refusal(&digits, output, 0, refusal);
-    lines::clear_from(output, length);
-    length
+    let mut writer = Writer::new(output);
+    writer.put_refusal(refusal.reason.number(), refusal.place);
+    writer.finish()
 }
 
 // Plans a table that was read and settled, and prints the plan. The tops and marks are used up: making the passes puts the highest layouts in the place of the tops.
 fn print_table(
     parents: &[u16],
-    tree: &[u16; TREE],
-    tops: &mut [u16],
-    bottoms: &[u16],
-    marks: &mut [u8],
-    windows: &[u8],
+    tree: &SettledTree,
+    columns: &mut JobColumns,
     work: &mut [u16],
-    output: &mut [u8],
+    output: &mut [u8; OUTPUT],
 ) -> usize
-    requires accepted { Accepted (table_of parents.now tops.old bottoms.now marks.old windows.now) }
+    requires accepted { Accepted (table_with parents.now columns.old) }
     requires spanned { Spanned parents.now tree.now }
-    requires roomy { Roomy (length tops.old) work.old }
-    requires output_bytes_in_bounds { output_bytes ≤ length output.old }
-    ensures { Printed (plan_bytes (table_of parents.now tops.old bottoms.now marks.old windows.now)) output.old result output.new }
+    requires roomy { Roomy (jobs_in columns.old) work.old }
+    ensures same_columns { SameColumns columns.old columns.new }
+    ensures printed { Printed (plan_bytes (table_with parents.now columns.old)) output.old result output.new }
 {
-    let totals = passes::make_passes(parents, tree, tops, bottoms, marks, windows, work);
-    print::print_plan(parents, tree, tops, bottoms, work, totals, output)
+    let totals = passes::make_passes(parents, tree, columns, work);
+    let bottoms = columns.bottoms;
+    print::print_plan(parents, tree, columns.tops, bottoms, work, totals, output)
 }
 
-// Prints the groups of a table that was read and settled, or refusal 14 where one of them is not full.
+// Prints the groups of a table that was read and settled, or turns it away where one of them is not full.
 fn print_grouping(
     parents: &[u16],
-    tree: &[u16; TREE],
+    tree: &SettledTree,
     bottoms: &[u16],
     work: &[u16],
     members: &[u16],
     lanes: LaneCount,
-    grouped: Grouped,
-    output: &mut [u8],
-) -> usize
-    requires groups_made { (tb : Table) × GroupsMade tb lanes.0 parents.now tree.now bottoms.now «grouped» members.now work.now }
-    requires output_bytes_in_bounds { output_bytes ≤ length output.old }
-    ensures { (tb : Table) → GroupsMade tb lanes.0 parents.now tree.now bottoms.now «grouped» members.now work.now → Printed (group_reading_bytes lanes.0 (read tb)) output.old result output.new }
+    groups: Option<usize>,
+    output: &mut [u8; OUTPUT],
+) -> Result<usize, Refusal>
+    requires groups_made { (tb : Table) × GroupsMade tb lanes.0 parents.now tree.now bottoms.now «groups» members.now work.now }
+    ensures { (tb : Table) → GroupsMade tb lanes.0 parents.now tree.now bottoms.now «groups» members.now work.now → Told (group_reading_bytes lanes.0 (read tb)) output.old output.new result }
 {
-    match grouped {
-        Grouped::Full(groups) => {
-            group_lines::print_groups(parents, tree, bottoms, work, members, lanes, groups, output)
-        }
-        Grouped::Short => {
-            print_refusal(
-                output,
-                Refusal {
-                    number: 14,
-                    place: 0,
-                },
-            )
-        }
-    }
+    let Some(groups) = groups else {
+        return Err(Refusal {
+            reason: Reason::NoFullGrouping,
+            place: 0,
+        });
+    };
+    Ok(group_lines::print_groups(parents, tree, bottoms, work, members, lanes, groups, output))
+}
+
+// Reads a table into clear arrays, and settles its layouts.
+fn read_into(
+    input: &[u8],
+    parents: &mut [u16],
+    tops: &mut [u16],
+    bottoms: &mut [u16],
+    marks: &mut [u8],
+    windows: &mut [u8],
+    tree: &mut SettledTree,
+) -> Result<Counts, Refusal>
+    requires { BuffersReady input.now parents.old tops.old bottoms.old marks.old windows.old }
+    ensures { LinesOutcome (read_table input.now) parents.new tops.new bottoms.new marks.new windows.new tree.new result }
+{
+    let mut buffers = TableBuffers {
+        parents,
+        tops,
+        bottoms,
+        marks,
+        windows,
+    };
+    table::read_lines(input, &mut buffers, tree)
 }
 
 // A run in lent arrays that have room for the jobs of the input. For a press that takes full passes alone the places of the groups stand in the place of the tops.
 fn run_in(
     input: &[u8],
-    output: &mut [u8],
+    output: &mut [u8; OUTPUT],
     tops: &mut [u16],
     bottoms: &mut [u16],
     marks: &mut [u8],
     windows: &mut [u8],
     work: &mut [u16],
-    press: Press,
-) -> usize
-    requires output_bytes_in_bounds { output_bytes ≤ length output.old }
+    press: KnownPress,
+) -> Result<usize, Refusal>
     requires arrays_for { ArraysFor input.now tops.old bottoms.old marks.old windows.old work.old }
-    requires press_value { press_known «press» ≡ true }
-    ensures { Printed (press_bytes «press» (read_table input.now)) output.old result output.new }
+    ensures { Told (press_bytes «press».press (read_table input.now)) output.old output.new result }
 {
     let mut parents = [model::ABSENT; LayoutNumber::LIMIT];
-    let mut tree = [0u16; TREE];
-    let reading = table::read_lines(
+    let mut tree = SettledTree::new();
+    let counts = read_into(
         input,
         &mut parents,
         tops,
@@ -140,64 +169,53 @@ fn run_in(
         marks,
         windows,
         &mut tree,
-    );
-    match reading {
-        TableRead::Refused(r) => print_refusal(output, r),
-        TableRead::Read(c) => {
-            let layouts = c.layouts as usize;
-            let jobs = c.jobs as usize;
-            match press {
-                Press::TwoLanes => {
-                    print_table(
-                        &parents[..layouts],
-                        &tree,
-                        &mut tops[..jobs],
-                        &bottoms[..jobs],
-                        &mut marks[..jobs],
-                        &windows[..jobs],
-                        work,
-                        output,
-                    )
-                }
-                Press::FullPasses(lanes) => {
-                    let grouped = groups::make_groups(
-                        &parents[..layouts],
-                        &tree,
-                        &mut tops[..jobs],
-                        &bottoms[..jobs],
-                        &mut marks[..jobs],
-                        &windows[..jobs],
-                        work,
-                        lanes,
-                    );
-                    print_grouping(
-                        &parents[..layouts],
-                        &tree,
-                        &bottoms[..jobs],
-                        work,
-                        &tops[..jobs],
-                        lanes,
-                        grouped,
-                        output,
-                    )
-                }
-            }
+    )?;
+    let jobs = usize::from(counts.jobs);
+    let parents = &parents[..usize::from(counts.layouts)];
+    let tops = &mut tops[..jobs];
+    let bottoms = &bottoms[..jobs];
+    let marks = &mut marks[..jobs];
+    let windows = &windows[..jobs];
+    let mut columns = JobColumns {
+        tops,
+        bottoms,
+        marks,
+        windows,
+    };
+    match press.press {
+        Press::TwoLanes => Ok(print_table(parents, &tree, &mut columns, work, output)),
+        Press::FullPasses(lanes) => {
+            let groups = groups::make_groups(parents, &tree, &mut columns, work, lanes);
+            print_grouping(
+                parents,
+                &tree,
+                bottoms,
+                work,
+                columns.tops,
+                lanes,
+                groups,
+                output,
+            )
         }
     }
 }
 
-// The run in arrays for few jobs.
-fn run_few(input: &[u8], output: &mut [u8], press: Press) -> usize
-    requires output_bytes_in_bounds { output_bytes ≤ length output.old }
-    requires input_len_bound { length input.now ≤ 11 * few_jobs }
-    requires press_value { press_known «press» ≡ true }
-    ensures { Printed (press_bytes «press» (read_table input.now)) output.old result output.new }
+// The run in arrays for so many jobs.
+fn run_with<const JOBS: usize, const WORK: usize>(
+    input: &[u8],
+    output: &mut [u8; OUTPUT],
+    press: KnownPress,
+) -> Result<usize, Refusal>
+    requires jobs_bound { JOBS < 65536 }
+    requires work_bound { WORK < 65536 }
+    requires arrays_for { ArraysFor input.now (replicate JOBS FFFF) (replicate JOBS FFFF) (replicate JOBS 0) (replicate JOBS 0) (replicate WORK 0) }
+    ensures { Told (press_bytes «press».press (read_table input.now)) output.old output.new result }
 {
-    let mut tops = [model::ABSENT; FEW];
-    let mut bottoms = [model::ABSENT; FEW];
-    let mut marks = [0u8; FEW];
-    let mut windows = [0u8; FEW];
-    let mut work = [0u16; 8 * FEW];
+    let mut tops = [model::ABSENT; JOBS];
+    let mut bottoms = [model::ABSENT; JOBS];
+    let mut marks = [0; JOBS];
+    let mut windows = [0; JOBS];
+    let mut work = [0; WORK];
     run_in(
         input,
         output,
@@ -210,76 +228,40 @@ fn run_few(input: &[u8], output: &mut [u8], press: Press) -> usize
     )
 }
 
-// In arrays for some jobs.
-fn run_some(input: &[u8], output: &mut [u8], press: Press) -> usize
-    requires output_bytes_in_bounds { output_bytes ≤ length output.old }
-    requires input_len_bound { length input.now ≤ 11 * some_jobs }
-    requires press_value { press_known «press» ≡ true }
-    ensures { Printed (press_bytes «press» (read_table input.now)) output.old result output.new }
+// The run in arrays by the size of the input.
+fn run_sized(input: &[u8], output: &mut [u8; OUTPUT], press: KnownPress) -> Result<usize, Refusal>
+    ensures { Told (press_bytes «press».press (read_table input.now)) output.old output.new result }
 {
-    let mut tops = [model::ABSENT; SOME];
-    let mut bottoms = [model::ABSENT; SOME];
-    let mut marks = [0u8; SOME];
-    let mut windows = [0u8; SOME];
-    let mut work = [0u16; 8 * SOME];
-    run_in(
-        input,
-        output,
-        &mut tops,
-        &mut bottoms,
-        &mut marks,
-        &mut windows,
-        &mut work,
-        press,
-    )
+    if input.len() <= FEW_BYTES {
+        return run_with::<FEW, FEW_WORK>(input, output, press);
+    }
+    if input.len() <= SOME_BYTES {
+        return run_with::<SOME, SOME_WORK>(input, output, press);
+    }
+    run_with::<{ JobNumber::LIMIT }, { schedule::WORK }>(input, output, press)
 }
 
-// In arrays for the most jobs.
-fn run_many(input: &[u8], output: &mut [u8], press: Press) -> usize
-    requires output_bytes_in_bounds { output_bytes ≤ length output.old }
-    requires press_value { press_known «press» ≡ true }
-    ensures { Printed (press_bytes «press» (read_table input.now)) output.old result output.new }
-{
-    let mut tops = [model::ABSENT; JobNumber::LIMIT];
-    let mut bottoms = [model::ABSENT; JobNumber::LIMIT];
-    let mut marks = [0u8; JobNumber::LIMIT];
-    let mut windows = [0u8; JobNumber::LIMIT];
-    let mut work = [0u16; schedule::WORK];
-    run_in(
-        input,
-        output,
-        &mut tops,
-        &mut bottoms,
-        &mut marks,
-        &mut windows,
-        &mut work,
-        press,
-    )
-}
-
-// The run for a press: 8 and 13, and then in arrays by the size of the input.
+// The run for a press: 8 and 13, and then what the table comes to.
 fn run_for(input: &[u8], output: &mut [u8], press: Press) -> usize
     ensures { PressOutcome input.now output.old result output.new «press» }
 {
-    if output.len() < OUTPUT {
+    let Some((front, rest)) = output.split_first_chunk_mut::<OUTPUT>() else {
         return 0;
-    }
-    if !press_known(press) {
+    };
+    rest.fill(0);
+    if !press.is_known() {
         return print_refusal(
-            output,
+            front,
             Refusal {
-                number: 13,
+                reason: Reason::UnknownPress,
                 place: 0,
             },
         );
     }
-    if input.len() <= FEW_BYTES {
-        return run_few(input, output, press);
+    match run_sized(input, front, KnownPress { press }) {
+        Ok(length) => length,
+        Err(refusal) => print_refusal(front, refusal),
     }
-    if input.len() <= SOME_BYTES {
-        return run_some(input, output, press);
-    }
-    run_many(input, output, press)
 }
 
 // Reads a table's bytes, plans its passes and prints the plan, or the refusal; the answer is how many bytes were printed. Output below

@@ -1,103 +1,101 @@
 // A plan as lines: a line for each pass, by the running order, and the totals (document 01, "The plan").
-ghost use Rattle.std.specs.Prelude.{◌≡◌, List, ℕ, ◌+◌, ◌≤◌, length};
+ghost use Rattle.std.specs.Prelude.{◌≡◌, List, ℕ, ◌+◌, ◌<◌, ◌≤◌, length, replicate};
+ghost use Rattle.model.specs.Tree.{FFFF};
 ghost use Rattle.model.specs.Jobs.{Table};
 ghost use Rattle.model.specs.Output.{plan_bytes, output_bytes};
-ghost use Rattle.ancestry.specs.SparseTable.{Searchable};
-ghost use Rattle.lines.specs.Writing.{digit_bytes, Printed};
+ghost use Rattle.ancestry.specs.SparseTable.{Roomy};
+ghost use Rattle.ancestry.specs.Searching.{SearchableBy};
+ghost use Rattle.lines.specs.Writing.{Printed};
+ghost use Rattle.lines.specs.Writers.{written, output, Same, Room, Put};
 ghost use Rattle.passes.specs.PlanPass.{Plan, TotalsOf};
-ghost use Rattle.run.specs.Printing.{PairKnown, line_length, LineAppended, PassesAppended};
+ghost use Rattle.run.specs.Printing.{PairKnown, line_length, line_of, PassesAppended};
 
-use highest::highest_at;
+use crate::OUTPUT;
+use ancestry::CommonAncestors;
+use jobs::layout_at;
+use lines::Writer;
 use model::Totals;
 use passes::Pass;
-use settle::TREE;
+use settle::SettledTree;
 
 // The line of a pass. What two jobs share begins at the highest layout of the earlier.
-fn put_pass(digits: &[u8; 16], highests: &[u16], out: &mut [u8], at: usize, pass: Pass) -> usize
-    requires digits_value { digits.now ≡ digit_bytes }
+fn put_pass(highests: &[u16], pass: Pass, writer: &mut Writer)
     requires pair_known { PairKnown «pass» (length highests.now) }
-    requires pass_in_bounds { at + line_length «pass» ≤ length out.old }
-    ensures { LineAppended highests.now «pass» at out.old result out.new }
+    requires pass_in_bounds { Room writer.old (line_length «pass») }
+    ensures { Put (line_length «pass») (line_of highests.now «pass») writer.old writer.new }
 {
     match pass {
         Pass::Pair(one, other, lower) => {
-            let upper = highest_at(highests, one);
-            lines::put_pair(digits, out, at, one, other, upper, lower)
+            let upper = layout_at(highests, one);
+            writer.put_pair(one, other, upper, lower);
         }
-        Pass::Single(job) => lines::put_single(digits, out, at, job),
+        Pass::Single(job) => writer.put_single(job),
     }
 }
 
 // The lines of all passes.
 fn put_passes(
-    digits: &[u8; 16],
-    tree: &[u16; TREE],
-    minima: &[u16],
+    common: &CommonAncestors,
     highests: &[u16],
     bottoms: &[u16],
     work: &[u16],
     count: usize,
-    out: &mut [u8],
-) -> usize
-    requires digits_value { digits.now ≡ digit_bytes }
-    requires by_index { (tb : Table) × (ps : List ℕ) × Plan tb ps tree.now highests.now bottoms.now work.now count × Searchable ps tree.now minima.now }
-    requires output_bytes_in_bounds { output_bytes ≤ length out.old }
-    ensures { (tb : Table) (ps : List ℕ) → Plan tb ps tree.now highests.now bottoms.now work.now count → Searchable ps tree.now minima.now → PassesAppended tb count out.old result out.new }
+    writer: &mut Writer,
+)
+    requires by_index { (tb : Table) × (ps : List ℕ) × Plan tb ps common.now.tree.now highests.now bottoms.now work.now count × SearchableBy ps common.now }
+    requires none_written { written writer.old ≡ 0 }
+    requires output_bytes_in_bounds { output_bytes ≤ length (output writer.old) }
+    ensures same { Same writer.old writer.new }
+    ensures appended { (tb : Table) (ps : List ℕ) → Plan tb ps common.now.tree.now highests.now bottoms.now work.now count → SearchableBy ps common.now → PassesAppended tb count (output writer.old) (written writer.new) (output writer.new) }
 {
-    let mut at = 0;
-    let mut k = 0;
-    while k < count {
-        let pass = passes::pass_at(tree, minima, bottoms, work, k);
-        at = put_pass(digits, highests, out, at, pass);
-        k += 1;
+    for k in 0..count {
+        let pass = passes::pass_at(common, bottoms, work, k);
+        put_pass(highests, pass, writer);
     }
-    at
 }
 
-// The same, with the minima of a small tree in few cells, so that little memory is touched.
-fn put_plan(
-    digits: &[u8; 16],
+// The whole plan, with the minima in so many cells, and zeros after it.
+fn print_in_cells<const CELLS: usize>(
     parents: &[u16],
-    tree: &[u16; TREE],
-    highests: &[u16],
-    bottoms: &[u16],
-    work: &[u16],
-    count: usize,
-    out: &mut [u8],
-) -> usize
-    requires digits_value { digits.now ≡ digit_bytes }
-    requires plan { (tb : Table) × Plan tb parents.now tree.now highests.now bottoms.now work.now count }
-    requires output_bytes_in_bounds { output_bytes ≤ length out.old }
-    ensures { (tb : Table) → Plan tb parents.now tree.now highests.now bottoms.now work.now count → PassesAppended tb count out.old result out.new }
-{
-    if ancestry::stride_of(tree) <= ancestry::FEW {
-        let mut minima = [model::ABSENT; ancestry::FEW_CELLS];
-        ancestry::set_minima(parents, tree, &mut minima);
-        return put_passes(digits, tree, &minima, highests, bottoms, work, count, out);
-    }
-    let mut minima = [model::ABSENT; ancestry::CELLS];
-    ancestry::set_minima(parents, tree, &mut minima);
-    put_passes(digits, tree, &minima, highests, bottoms, work, count, out)
-}
-
-// The whole plan, with zeros after it.
-pub fn print_plan(
-    parents: &[u16],
-    tree: &[u16; TREE],
+    tree: &SettledTree,
     highests: &[u16],
     bottoms: &[u16],
     work: &[u16],
     totals: Totals,
-    out: &mut [u8],
+    out: &mut [u8; OUTPUT],
 ) -> usize
+    requires cells_bound { CELLS < 65536 }
+    requires roomy { Roomy parents.now (replicate CELLS FFFF) }
     requires plan { (tb : Table) × Plan tb parents.now tree.now highests.now bottoms.now work.now (totals.pairs + totals.singles) × TotalsOf tb totals }
-    requires output_bytes_in_bounds { output_bytes ≤ length out.old }
     ensures { (tb : Table) → Plan tb parents.now tree.now highests.now bottoms.now work.now (totals.pairs + totals.singles) → TotalsOf tb totals → Printed (plan_bytes tb) out.old result out.new }
 {
-    let digits = lines::DIGITS;
-    let count = totals.pairs as usize + totals.singles as usize;
-    let end = put_plan(&digits, parents, tree, highests, bottoms, work, count, out);
-    let length = lines::put_totals(&digits, out, end, totals);
-    lines::clear_from(out, length);
-    length
+    let mut minima = [model::ABSENT; CELLS];
+    let common = CommonAncestors::new(parents, tree, &mut minima);
+    let count = usize::from(totals.pairs) + usize::from(totals.singles);
+    let mut writer = Writer::new(out);
+    put_passes(&common, highests, bottoms, work, count, &mut writer);
+    writer.put_totals(totals);
+    writer.finish()
+}
+
+// The minima of a small tree stand in few cells, so that little memory is touched.
+pub fn print_plan(
+    parents: &[u16],
+    tree: &SettledTree,
+    highests: &[u16],
+    bottoms: &[u16],
+    work: &[u16],
+    totals: Totals,
+    out: &mut [u8; OUTPUT],
+) -> usize
+    requires plan { (tb : Table) × Plan tb parents.now tree.now highests.now bottoms.now work.now (totals.pairs + totals.singles) × TotalsOf tb totals }
+    ensures { (tb : Table) → Plan tb parents.now tree.now highests.now bottoms.now work.now (totals.pairs + totals.singles) → TotalsOf tb totals → Printed (plan_bytes tb) out.old result out.new }
+{
+    if ancestry::stride_of(tree) <= ancestry::FEW {
+        print_in_cells::<{ ancestry::FEW_CELLS }>(
+            parents, tree, highests, bottoms, work, totals, out,
+        )
+    } else {
+        print_in_cells::<{ ancestry::CELLS }>(parents, tree, highests, bottoms, work, totals, out)
+    }
 }

@@ -1,3 +1,4 @@
 pub mod Schedule
 pub mod InWork
 pub mod OfTable
+pub mod Places

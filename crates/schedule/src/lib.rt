@@ -3,10 +3,10 @@
 #![tactic(auto)]
 
 ghost use Rattle.std.specs.Prelude.{◌≡◌, ◌+◌, ◌*◌, ◌<◌, length, get_or, set};
+ghost use Rattle.model.specs.Cells.{place_in, cell_of};
 ghost use Rattle.model.specs.Jobs.{job_limit, window_limit};
-ghost use Rattle.schedule.specs.InWork.{order_cell, job_in, window_in, slot_part, from_part, to_part, reached_part, due_part, mate_part, opener_part};
+ghost use Rattle.schedule.specs.InWork.{order_cell, job_in, window_in, to_part, mate_part, opener_part};
 
-use buffers::wide;
 use model::{JobNumber, Rank, WindowNumber};
 
 // The job at each place, and its window.
@@ -48,7 +48,7 @@ pub fn job_at(work: &[u16], place: Rank) -> JobNumber
     requires { place.0 < length work.now }
     ensures { result.0 ≡ job_in work.now place.0 }
 {
-    let at = place.0 as usize;
+    let at = usize::from(place.0);
     JobNumber(work[at] % WINDOW_STEP)
 }
 
@@ -58,7 +58,7 @@ pub fn window_at(work: &[u16], place: Rank) -> WindowNumber
     requires place_bound { window_in work.now place.0 < window_limit }
     ensures { result.0 ≡ window_in work.now place.0 }
 {
-    let at = place.0 as usize;
+    let at = usize::from(place.0);
     WindowNumber((work[at] / WINDOW_STEP) as u8)
 }
 
@@ -69,8 +69,8 @@ pub fn set_job(work: &mut [u16], place: Rank, job: JobNumber, window: WindowNumb
     requires window_lt_window_limit { window.0 < window_limit }
     ensures { work.new ≡ set work.old place.0 (order_cell job.0 window.0) }
 {
-    let at = place.0 as usize;
-    work[at] = job.0 + window.0 as u16 * WINDOW_STEP;
+    let at = usize::from(place.0);
+    work[at] = job.0 + u16::from(window.0) * WINDOW_STEP;
 }
 
 // The place that a gap ahead of another leads to.
@@ -79,80 +79,56 @@ pub fn near_to(gaps: &[u8], place: Rank) -> Rank
     requires place_bound { place.0 + get_or gaps.now place.0 0 < 65536 }
     ensures { result.0 ≡ place.0 + get_or gaps.now place.0 0 }
 {
-    let at = place.0 as usize;
-    Rank(place.0 + gaps[at] as u16)
+    let at = usize::from(place.0);
+    Rank(place.0 + u16::from(gaps[at]))
 }
 
-// The slot at a place.
-pub fn slot_at(work: &[u16], count: usize, place: Rank) -> usize
-    requires { slot_part * count + place.0 < length work.now }
-    ensures { result ≡ get_or work.now (slot_part * count + place.0) 0 }
+// A cell of a part.
+fn cell_in<const PART: usize>(work: &[u16], count: usize, at: usize) -> u16
+    requires { PART * count + at < length work.now }
+    ensures { result ≡ get_or work.now (PART * count + at) 0 }
 {
-    let at = SLOT * count + place.0 as usize;
-    wide(work[at])
+    work[PART * count + at]
 }
 
-// Where the span begins that a place asks for.
-pub fn from_at(work: &[u16], count: usize, place: Rank) -> usize
-    requires { from_part * count + place.0 < length work.now }
-    ensures { result ≡ get_or work.now (from_part * count + place.0) 0 }
+// Writes a cell of a part.
+fn set_cell<const PART: usize>(work: &mut [u16], count: usize, at: usize, cell: u16)
+    requires { PART * count + at < length work.old }
+    ensures { work.new ≡ set work.old (PART * count + at) cell }
 {
-    let at = FROM * count + place.0 as usize;
-    wide(work[at])
+    work[PART * count + at] = cell;
 }
 
-// Where it ends; 0 where the place asks nobody, or asks no longer.
-pub fn to_at(work: &[u16], count: usize, place: Rank) -> usize
-    requires { to_part * count + place.0 < length work.now }
-    ensures { result ≡ get_or work.now (to_part * count + place.0) 0 }
+// The number that a part has at a place: its slot, where the span begins or ends that it asks for, how many places are reached at its turn.
+pub fn number_in<const PART: usize>(work: &[u16], count: usize, place: Rank) -> usize
+    requires { PART * count + place.0 < length work.now }
+    ensures { result ≡ get_or work.now (PART * count + place.0) 0 }
 {
-    let at = TO * count + place.0 as usize;
-    wide(work[at])
+    usize::from(cell_in::<PART>(work, count, usize::from(place.0)))
 }
 
-// How many places are reached at the turn of a place.
-pub fn due_at(work: &[u16], count: usize, place: Rank) -> usize
-    requires { due_part * count + place.0 < length work.now }
-    ensures { result ≡ get_or work.now (due_part * count + place.0) 0 }
+// The place that a part has behind `before` others: that is reached after so many, or opens the pass after so many.
+pub fn place_in<const PART: usize>(work: &[u16], count: usize, before: usize) -> Rank
+    requires { PART * count + before < length work.now }
+    ensures { result.0 ≡ get_or work.now (PART * count + before) 0 }
 {
-    let at = DUE * count + place.0 as usize;
-    wide(work[at])
+    Rank(cell_in::<PART>(work, count, before))
 }
 
-// The place that is reached after `before` others.
-pub fn reached_at(work: &[u16], count: usize, before: usize) -> Rank
-    requires { reached_part * count + before < length work.now }
-    ensures { result.0 ≡ get_or work.now (reached_part * count + before) 0 }
-{
-    let at = REACHED * count + before;
-    Rank(work[at])
-}
-
-// The mate of a place, FFFF for none.
-pub fn mate_at(work: &[u16], count: usize, place: Rank) -> Rank
+// The mate of a place.
+pub fn mate_at(work: &[u16], count: usize, place: Rank) -> Option<Rank>
     requires { mate_part * count + place.0 < length work.now }
-    ensures { result.0 ≡ get_or work.now (mate_part * count + place.0) 0 }
+    ensures { result ≡ place_in (get_or work.now (mate_part * count + place.0) 0) }
 {
-    let at = MATE * count + place.0 as usize;
-    Rank(work[at])
-}
-
-// The place that opens pass `pass`.
-pub fn opener_at(work: &[u16], count: usize, pass: usize) -> Rank
-    requires { opener_part * count + pass < length work.now }
-    ensures { result.0 ≡ get_or work.now (opener_part * count + pass) 0 }
-{
-    let at = OPENER * count + pass;
-    Rank(work[at])
+    Rank::in_cell(cell_in::<MATE>(work, count, usize::from(place.0)))
 }
 
 // Leaves the mate of a place.
-pub fn set_mate(work: &mut [u16], count: usize, place: Rank, mate: Rank)
+pub fn set_mate(work: &mut [u16], count: usize, place: Rank, mate: Option<Rank>)
     requires { mate_part * count + place.0 < length work.old }
-    ensures { work.new ≡ set work.old (mate_part * count + place.0) mate.0 }
+    ensures { work.new ≡ set work.old (mate_part * count + place.0) (cell_of mate) }
 {
-    let at = MATE * count + place.0 as usize;
-    work[at] = mate.0;
+    set_cell::<MATE>(work, count, usize::from(place.0), Rank::cell_of(mate));
 }
 
 // Leaves the place that opens pass `pass`.
@@ -160,8 +136,7 @@ pub fn set_opener(work: &mut [u16], count: usize, pass: usize, place: Rank)
     requires { opener_part * count + pass < length work.old }
     ensures { work.new ≡ set work.old (opener_part * count + pass) place.0 }
 {
-    let at = OPENER * count + pass;
-    work[at] = place.0;
+    set_cell::<OPENER>(work, count, pass, place.0);
 }
 
 // A place that has been taken asks nobody.
@@ -169,6 +144,5 @@ pub fn end_asking(work: &mut [u16], count: usize, place: Rank)
     requires { to_part * count + place.0 < length work.old }
     ensures { work.new ≡ set work.old (to_part * count + place.0) 0 }
 {
-    let at = TO * count + place.0 as usize;
-    work[at] = 0;
+    set_cell::<TO>(work, count, usize::from(place.0), 0);
 }

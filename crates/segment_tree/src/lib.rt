@@ -6,6 +6,7 @@
 
 ghost use Rattle.std.specs.Prelude.{◌≡◌, ◌-◌, ◌<◌, ◌≤◌, min, length};
 ghost use Rattle.std.specs.Int.Count.{count_trailing_zeros};
+ghost use Rattle.model.specs.Cells.{place_in};
 ghost use Rattle.model.specs.Jobs.{job_limit};
 ghost use Rattle.model.specs.Visits.{levels, visits};
 ghost use Rattle.sweep_laws.specs.SegmentTree.{SegmentTree, Clearable, Cleared, Insertable, Inserted, Removed, entries_in, smallest, ShelfSpan, Searchable};
@@ -15,7 +16,6 @@ ghost use Rattle.sweep_laws.specs.NodeSpans.{node_at, Narrowable, Narrowed};
 ghost use Rattle.sweep_laws.specs.VisitCount.{levels_inside, levels_apart, Countable};
 ghost use Rattle.sweep_laws.specs.Levels.{ShapeFor};
 
-use buffers::{larger, lesser};
 use model::Rank;
 
 // The measures of a tree: it has `width` slots, and the nodes from `kept` on, so `kept` of them on the uppermost level.
@@ -39,8 +39,8 @@ impl Shelf {
         ensures { (result.base ≡ begin) × (result.size ≡ end - begin) }
     {
         Shelf {
-            base: begin as usize,
-            size: (end - begin) as usize,
+            base: usize::from(begin),
+            size: usize::from(end - begin),
         }
     }
 }
@@ -55,9 +55,9 @@ fn kept_for(width: usize, longest: usize) -> usize
     requires { 1 ≤ width }
     ensures { (1 ≤ result) × (result ≤ width) }
 {
-    let mut kept = lesser(width, KEPT);
+    let mut kept = width.min(KEPT);
     let mut slots = longest;
-    while larger(slots, kept) <= width / 2 {
+    while slots.max(kept) <= width / 2 {
         slots *= 2;
         kept *= 2;
     }
@@ -77,26 +77,12 @@ pub fn shape_for(count: usize, longest: usize) -> Shape
     Shape { kept, width }
 }
 
-// The smaller of two places.
-fn smaller(a: Rank, b: Rank) -> Rank
-    ensures { result.0 ≡ min a.0 b.0 }
-{
-    if a.comes_before(b) {
-        return a;
-    }
-    b
-}
-
 // Empties every slot.
 pub fn clear(nodes: &mut [u16], shape: Shape)
     requires { Clearable shape.kept shape.width nodes.old }
     ensures { Cleared shape.kept shape.width nodes.old nodes.new }
 {
-    let mut at = 0;
-    while at < 2 * shape.width {
-        nodes[at] = model::ABSENT;
-        at += 1;
-    }
+    nodes[..2 * shape.width].fill(model::ABSENT);
 }
 
 // Puts a place into an empty slot: each node above it takes the smaller. It has no early end, so that no step waits for the one before.
@@ -108,7 +94,7 @@ pub fn insert(nodes: &mut [u16], shape: Shape, slot: usize, place: Rank)
     nodes[leaf] = place.0;
     let mut node = leaf / 2;
     while shape.kept <= node {
-        nodes[node] = smaller(Rank(nodes[node]), place).0;
+        nodes[node] = nodes[node].min(place.0);
         node /= 2;
     }
 }
@@ -127,12 +113,12 @@ pub fn remove(nodes: &mut [u16], shape: Shape, slot: usize)
     ensures { Removed shape.kept shape.width nodes.old slot nodes.new }
 {
     let mut node = shape.width + slot;
-    let mut least = Rank(model::ABSENT);
-    nodes[node] = least.0;
+    let mut least = model::ABSENT;
+    nodes[node] = least;
     while 2 * shape.kept <= node {
-        least = smaller(least, Rank(nodes[sibling(node)]));
+        least = least.min(nodes[sibling(node)]);
         node /= 2;
-        nodes[node] = least.0;
+        nodes[node] = least;
     }
 }
 
@@ -159,8 +145,8 @@ fn levels_apart(levels: usize, from: usize, to: usize) -> usize
     ensures { result ≡ levels_apart levels from to }
 {
     let digit = 63 - usize::leading_zeros(from ^ to) as usize;
-    let zeros = lesser(levels, usize::trailing_zeros(from) as usize);
-    larger(digit, zeros) - zeros
+    let zeros = levels.min(usize::trailing_zeros(from) as usize);
+    digit.max(zeros) - zeros
 }
 
 // How many nodes document 01 counts for a lookup of the slots from `from` up to `to`, of which there are some: the topmost, and two for each node with an end strictly
@@ -173,25 +159,25 @@ fn count_visits(levels: usize, from: usize, to: usize) -> u32
     (1 + 2 * inside) as u32
 }
 
-// Part of a search: what is left of a span, with the smallest place taken in so far.
+// Part of a search: what is left of a span, with the smallest node taken in so far.
 #[derive(Clone, Copy)]
 struct Span {
     left: usize,
     right: usize,
-    least: Rank,
+    least: u16,
 }
 
 // Narrows a span of nodes, level by level up to the uppermost that is kept: the first and the last node are taken in, and what is left is the span of
 // the parents that lie wholly inside.
 fn narrow(nodes: &[u16], shape: Shape, from: usize, to: usize) -> Span
     requires { Narrowable shape.kept shape.width nodes.now from to }
-    ensures { Narrowed shape.kept shape.width nodes.now from to result.left result.right result.least.0 }
+    ensures { Narrowed shape.kept shape.width nodes.now from to result.left result.right result.least }
 {
     let mut left = from;
     let mut right = to;
-    let mut least = Rank(model::ABSENT);
+    let mut least = model::ABSENT;
     while left < right && 2 * shape.kept <= left {
-        least = smaller(least, smaller(Rank(nodes[left]), Rank(nodes[right - 1])));
+        least = least.min(nodes[left].min(nodes[right - 1]));
         left = (left + 1) / 2;
         right /= 2;
     }
@@ -199,25 +185,22 @@ fn narrow(nodes: &[u16], shape: Shape, from: usize, to: usize) -> Span
 }
 
 // The smallest of the nodes from `left` up to `right`, which stand on one level, and of `least`.
-fn level_minimum(nodes: &[u16], left: usize, right: usize, least: Rank) -> Rank
-    requires { right ≤ length nodes.now }
-    ensures { result.0 ≡ min least.0 (least_of (node_at nodes.now) left (right - left)) }
+fn level_minimum(nodes: &[u16], left: usize, right: usize, least: u16) -> u16
+    requires left_le_right { left ≤ right }
+    requires right_in_bounds { right ≤ length nodes.now }
+    ensures { result ≡ min least (least_of (node_at nodes.now) left (right - left)) }
 {
-    let mut answer = least;
-    let mut at = left;
-    while at < right {
-        answer = smaller(answer, Rank(nodes[at]));
-        at += 1;
-    }
-    answer
+    nodes[left..right]
+        .iter()
+        .fold(least, |least, &node| least.min(node))
 }
 
-// The smallest place in the slots from `from` up to `to`, from the slots up.
-fn range_minimum(nodes: &[u16], shape: Shape, from: usize, to: usize) -> Rank
+// The smallest place in the slots from `from` up to `to`, FFFF for none, from the slots up.
+fn range_minimum(nodes: &[u16], shape: Shape, from: usize, to: usize) -> u16
     requires segment_tree { SegmentTree shape.kept shape.width nodes.now }
     requires from_le_to { from ≤ to }
     requires to_le_width { to ≤ shape.width }
-    ensures { result.0 ≡ smallest (entries_in shape.width nodes.now) from to }
+    ensures { result ≡ smallest (entries_in shape.width nodes.now) from to }
 {
     let span = narrow(nodes, shape, shape.width + from, shape.width + to);
     level_minimum(nodes, span.left, span.right, span.least)
@@ -230,7 +213,7 @@ pub struct Candidates {
     pub last: Rank,
 }
 
-// The smallest place in the slots from `from` up to `to`, FFFF for none. Where the first that can wait there does, in `slot`, or comes after the last, there is nothing to
+// The smallest place in the slots from `from` up to `to`. Where the first that can wait there does, in `slot`, or comes after the last, there is nothing to
 // search for; another slot than its own costs a search and no more.
 pub fn lookup(
     nodes: &[u16],
@@ -239,24 +222,24 @@ pub fn lookup(
     to: usize,
     slot: usize,
     candidates: Candidates,
-) -> Rank
+) -> Option<Rank>
     requires { Searchable shape.kept shape.width nodes.now from to candidates.first.0 candidates.last.0 }
-    ensures { result.0 ≡ smallest (entries_in shape.width nodes.now) from to }
+    ensures { result ≡ place_in (smallest (entries_in shape.width nodes.now) from to) }
 {
     if to <= from {
-        return Rank(model::ABSENT);
+        return None;
     }
     let first = candidates.first;
     let last = candidates.last;
-    if last.comes_before(first) {
-        return Rank(model::ABSENT);
+    if last < first {
+        return None;
     }
     if from <= slot && slot < to {
-        if first.equals(Rank(nodes[shape.width + slot])) {
-            return first;
+        if first.0 == nodes[shape.width + slot] {
+            return Some(first);
         }
     }
-    range_minimum(nodes, shape, from, to)
+    Rank::in_cell(range_minimum(nodes, shape, from, to))
 }
 
 // How many nodes document 01 counts for a lookup of the slots from `from` up to `to`, which are a shelf's.

@@ -3,13 +3,12 @@ use Prim.Native.Nat.{ℕ, zero, suc, ◌+◌, ◌<◌, ◌≤◌}
 use mathlib.Core.Path.{◌≡◌, refl, ◌∙◌}
 use mathlib.Core.Bool.{true, false, not}
 use mathlib.Core.List.{List}
-use native.Mathlib.Omega.{arith}
 use native.Mathlib.Numerals.{add-one}
 use lib.ListN.{length, get_or, drop}
-use lib.Seq.{drop-cons, drop-length}
+use lib.Seq.{drop-cons}
+use Rattle.std.proofs.lemmas.List.{drop_all}
 use lib.Dec.{eqb, ltb}
-use borrow.Author.Tests.{lt-ltb, le-ltb}
-use Rattle.model.specs.Verdict.{refuse_if, ◌then◌}
+use Rattle.model.specs.Verdict.{accepted, refused, refuse_if, ◌then◌}
 use Rattle.model.specs.Tree.{right_parent, layouts_from}
 
 pub right_later : (x p : ℕ) → ((x ≡ 0) → ⊥) → ltb p x ≡ right_parent x p
@@ -29,11 +28,9 @@ module _ (ps : List ℕ) (x : ℕ) (h : x < length ps) where
   pub layouts_right : right_parent x (get_or ps x 0) ≡ true → layouts_from x (drop x ps) ≡ layouts_from (x + 1) (drop (x + 1) ps)
   layouts_right e = layouts_at ∙ rw (e, add-one)
 
-  pub layouts_wrong : right_parent x (get_or ps x 0) ≡ false → layouts_from x (drop x ps) ≡ refuse_if (ltb x (length ps)) 4 x
-  layouts_wrong e = layouts_at ∙ rw (e, lt-ltb x (length ps) h)
+  pub layouts_wrong : right_parent x (get_or ps x 0) ≡ false → layouts_from x (drop x ps) ≡ refused 4 x
+  layouts_wrong e = layouts_at ∙ rw e
 
-pub layouts_end : (ps : List ℕ) (x : ℕ) → x ≤ length ps → length ps ≤ x → layouts_from x (drop x ps) ≡ refuse_if (ltb x (length ps)) 4 x
+pub layouts_end : (ps : List ℕ) (x : ℕ) → length ps ≤ x → layouts_from x (drop x ps) ≡ accepted
 unfolding layouts_from
-layouts_end ps x a b =
-    let e : x ≡ length ps = omega arith in
-    rw (le-ltb x (length ps) b, e, drop-length ps)
+layouts_end ps x h = rw (drop_all x ps h)

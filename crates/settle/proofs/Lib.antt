@@ -1,6 +1,7 @@
 -- Laws that the proofs of settling cite.
 pub mod Laws
-pub mod Links
+pub mod Linking
 pub mod WaysUp
 pub mod Walk
 pub mod Outcome
+pub mod LinkCells

@@ -7,8 +7,7 @@ use mathlib.Core.List.{List, [], ◌∷◌, ◌++◌, head_d, flat_map, append_a
 use native.Mathlib.Nat.{sub-zero, add-zero}
 use native.Mathlib.Omega.{arith}
 use native.Mathlib.Decide.{ℕ_discrete, dec_lt}
-use lib.ListN.{length, get_or, set, length-set, length-append}
-use lib.Seq.{get_or-set_other}
+use lib.ListN.{length, get_or, set, length-append}
 use lib.Dec.{eqb, ltb}
 use borrow.Author.Tests.{lt-ltb, le-ltb, eq-eqb, ne_eqb, eqb-false}
 use Rattle.model.specs.Lists.{numbers, numbers_from, any_of, select}
@@ -19,9 +18,10 @@ use Rattle.tree_laws.specs.WellFormed.{Tree}
 use Rattle.tree_laws.specs.Ancestors.{AncestorOrSelf, ancestor_true, true_ancestor, ancestor_le, ancestor_refl}
 use Rattle.tree_laws.specs.Children.{child_parent, child_greater, rest_greater, ancestor_child, child_ancestor}
 use Rattle.tree_laws.specs.Leaves.{leaves_nonempty, leaves_of_leaf, leaves_of_children, first_of_child, last_is, last_lt}
-use Rattle.settle.specs.Spanned.{first_cells, last_cells, tree_cells}
-use Rattle.settle.specs.Numbering.{is_child, children_from, sibling_cells, Linked, Stamped, in_subtree, properly_in_subtree, Numberable, Numbered}
-use Rattle.settle.specs.Stamps.{stamped_as, stamped_set, stamped_other, stamped_then}
+use Rattle.settle.specs.declared.SettledTree.{SettledTree}
+use Rattle.settle.specs.declared.Links.{Links}
+use Rattle.settle.specs.Numbering.{is_child, children_from, Linked, Stamped, in_subtree, properly_in_subtree, Numberable, Numbered}
+use Rattle.settle.specs.Stamps.{stamped_as, stamped_set, stamped_then}
 
 -- ---- the children after a child
 
@@ -109,16 +109,16 @@ module _ (ps : List ℕ) (t : Tree ps) (x : ℕ) (known : x < length ps) where
 -- ---- numbering child by child
 
 -- the children `done` are numbered, `rest` are not yet; c is the first of the rest, and `after` the number of its first leaf
-pub record ChildrenDone (ps : List ℕ) (x : ℕ) (old new : List ℕ) (c after : ℕ) : Type 0 where
+pub record ChildrenDone (ps : List ℕ) (x : ℕ) (old new : SettledTree) (c after : ℕ) : Type 0 where
   pub done : List ℕ
   pub rest : List ℕ
   pub split : children ps x ≡ done ++ rest
   pub current : c ≡ head_d rest FFFF
   pub next_leaf : after ≡ first_leaf ps x + length (flat_map (leaves ps) done)
-  pub same : length new ≡ length old
-  pub ways_kept : (y : ℕ) → y < first_cells → get_or new y 0 ≡ get_or old y 0
-  pub firsts_hold : Stamped first_cells layout_limit (under ps done) (first_leaf ps) old new
-  pub lasts_hold : Stamped last_cells layout_limit (under ps done) (last_leaf ps) old new
+  pub depths_kept : new.depths ≡ old.depths
+  pub branches_kept : new.branches ≡ old.branches
+  pub firsts_hold : Stamped (under ps done) (first_leaf ps) old.first_leaves new.first_leaves
+  pub lasts_hold : Stamped (under ps done) (last_leaf ps) old.last_leaves new.last_leaves
 
 -- the first child and what comes after it, where c is the head
 split_head : (c : ℕ) (rest : List ℕ) → c ≡ head_d rest FFFF → ((c ≡ FFFF) → ⊥) → (tail : List ℕ) × (rest ≡ c ∷ tail)
@@ -136,24 +136,24 @@ unfolding head_d
 head_bounds c [] h each = (h, omega arith)
 head_bounds c (d ∷ tail) h each = omega (arith, each d (mathlib.Core.List.Memᴰ.head refl))
 
-nothing_under : (base : ℕ) (ps : List ℕ) (f : ℕ → ℕ) (old : List ℕ) → Stamped base layout_limit (under ps []) f old old
+nothing_under : (ps : List ℕ) (f : ℕ → ℕ) (old : List ℕ) → Stamped (under ps []) f old old
 unfolding any_of
-nothing_under base ps f old y h = rw (and-false (ltb y (length ps)))
+nothing_under ps f old y = rw (and-false (ltb y (length ps)))
 
 module _ (ps : List ℕ) (t : Tree ps) (x : ℕ) (known : x < length ps) where
-  pub none_done : (cells : List ℕ) (c after : ℕ) → c ≡ head_d (children_from ps x 0) FFFF → after ≡ first_leaf ps x → ChildrenDone ps x cells cells c after
+  pub none_done : (settled : SettledTree) (c after : ℕ) → c ≡ head_d (children_from ps x 0) FFFF → after ≡ first_leaf ps x → ChildrenDone ps x settled settled c after
   unfolding flat_map
-  none_done cells c after e start =
+  none_done settled c after e start =
       record {
         done = [];
         rest = children ps x;
         split = refl;
         current = e ∙ ap (λ (l : List ℕ). head_d l FFFF) (children_from_lem ps x);
         next_leaf = start ∙ sym (add-zero (first_leaf ps x));
-        same = refl;
-        ways_kept = λ y h. refl;
-        firsts_hold = nothing_under first_cells ps (first_leaf ps) cells;
-        lasts_hold = nothing_under last_cells ps (last_leaf ps) cells;
+        depths_kept = refl;
+        branches_kept = refl;
+        firsts_hold = nothing_under ps (first_leaf ps) settled.first_leaves;
+        lasts_hold = nothing_under ps (last_leaf ps) settled.last_leaves;
       }
 
   -- the current child is a child of x, and its first leaf is the next
@@ -170,7 +170,7 @@ module _ (ps : List ℕ) (t : Tree ps) (x : ℕ) (known : x < length ps) where
   mem_middle [] c tail = mathlib.Core.List.Memᴰ.head refl
   mem_middle (d ∷ done) c tail = mathlib.Core.List.Memᴰ.tail (mem_middle done c tail)
 
-  module _ (old new : List ℕ) (c after : ℕ) (d : ChildrenDone ps x old new c after) where
+  module _ (old new : SettledTree) (c after : ℕ) (d : ChildrenDone ps x old new c after) where
     pub current_child : ((c ≡ FFFF) → ⊥) → Current d.done c after
     current_child other =
         let h : (tail : List ℕ) × (d.rest ≡ c ∷ tail) = split_head c d.rest d.current other in
@@ -187,13 +187,13 @@ module _ (ps : List ℕ) (t : Tree ps) (x : ℕ) (known : x < length ps) where
         }
 
     -- a writing at one child more, after what was done
-    more_under : (base : ℕ) (f : ℕ → ℕ) (newer : List ℕ) → Stamped base layout_limit (under ps d.done) f old new → Stamped base layout_limit (in_subtree ps c) f new newer → Stamped base layout_limit (under ps (d.done ++ c ∷ [])) f old newer
-    more_under base f newer s n =
-        stamped_as base layout_limit (λ (y : ℕ). under ps d.done y || in_subtree ps c y) (under ps (d.done ++ c ∷ [])) f old newer (under_more ps d.done c)
-        (stamped_then base layout_limit (under ps d.done) (in_subtree ps c) f old new newer s n)
+    more_under : (f : ℕ → ℕ) (old new newer : List ℕ) → Stamped (under ps d.done) f old new → Stamped (in_subtree ps c) f new newer → Stamped (under ps (d.done ++ c ∷ [])) f old newer
+    more_under f old new newer s n =
+        stamped_as (λ (y : ℕ). under ps d.done y || in_subtree ps c y) (under ps (d.done ++ c ∷ [])) f old newer (under_more ps d.done c)
+        (stamped_then (under ps d.done) (in_subtree ps c) f old new newer s n)
 
     -- a child more: what numbering it did comes after what was done
-    pub one_done : ((c ≡ FFFF) → ⊥) → (links : List ℕ) → Linked ps links → (r : ℕ) (newer : List ℕ) → Numbered ps (in_subtree ps c) c new r newer → ChildrenDone ps x old newer (get_or links (sibling_cells + c) 0) r
+    pub one_done : ((c ≡ FFFF) → ⊥) → (links : Links) → Linked ps links → (r : ℕ) (newer : SettledTree) → Numbered ps (in_subtree ps c) c new r newer → ChildrenDone ps x old newer (get_or links.next_siblings c 0) r
     one_done other links linked r newer n =
         let h : Current d.done c after = current_child other in
         record {
@@ -202,17 +202,17 @@ module _ (ps : List ℕ) (t : Tree ps) (x : ℕ) (known : x < length ps) where
           split = h.split ∙ sym (append_assoc d.done (c ∷ []) h.tail);
           current = linked.sibling_at c h.positive h.inside ∙ rw (h.parent, children_after ps x d.done c h.tail h.split);
           next_leaf = n.after ∙ rw (← h.start, d.next_leaf, flat_more (leaves ps) d.done c, length-append (flat_map (leaves ps) d.done) (leaves ps c)) (omega arith);
-          same = n.same ∙ d.same;
-          ways_kept = λ y k. n.ways_kept y k ∙ d.ways_kept y k;
-          firsts_hold = more_under first_cells (first_leaf ps) newer d.firsts_hold n.firsts_hold;
-          lasts_hold = more_under last_cells (last_leaf ps) newer d.lasts_hold n.lasts_hold;
+          depths_kept = n.depths_kept ∙ d.depths_kept;
+          branches_kept = n.branches_kept ∙ d.branches_kept;
+          firsts_hold = more_under (first_leaf ps) old.first_leaves new.first_leaves newer.first_leaves d.firsts_hold n.firsts_hold;
+          lasts_hold = more_under (last_leaf ps) old.last_leaves new.last_leaves newer.last_leaves d.lasts_hold n.lasts_hold;
         }
 
     -- the next sibling has a greater number, or is FFFF
-    pub sibling_greater : ((c ≡ FFFF) → ⊥) → (links : List ℕ) → Linked ps links → (c < get_or links (sibling_cells + c) 0) × (get_or links (sibling_cells + c) 0 ≤ FFFF)
+    pub sibling_greater : ((c ≡ FFFF) → ⊥) → (links : Links) → Linked ps links → (c < get_or links.next_siblings c 0) × (get_or links.next_siblings c 0 ≤ FFFF)
     sibling_greater other links linked =
         let h : Current d.done c after = current_child other in
-        let e : get_or links (sibling_cells + c) 0 ≡ head_d h.tail FFFF = linked.sibling_at c h.positive h.inside ∙ rw (h.parent, children_after ps x d.done c h.tail h.split) in
+        let e : get_or links.next_siblings c 0 ≡ head_d h.tail FFFF = linked.sibling_at c h.positive h.inside ∙ rw (h.parent, children_after ps x d.done c h.tail h.split) in
         let bounds : (y : ℕ) → Memᴰ y h.tail → (c < y) × (y < FFFF) = λ y m. (rest_greater ps t x d.done c h.tail h.split m, omega (arith, t.small, (child_parent ps t {y = y} known (rw h.split (mathlib.Core.List.Memᴰ.append_right d.done (mathlib.Core.List.Memᴰ.tail m)))).0)) in
         rw e (head_bounds c h.tail (omega (arith, t.small, h.inside)) bounds)
 
@@ -225,37 +225,37 @@ module _ (ps : List ℕ) (t : Tree ps) (x : ℕ) (known : x < length ps) where
         let all : (y : ℕ) → under ps d.done y ≡ properly_in_subtree ps x y = λ y. ap (λ (l : List ℕ). under ps l y) whole ∙ under_all ps t x known y in
         record {
           after = d.next_leaf ∙ rw (whole, leaves_of_children ps t x known some);
-          same = d.same;
-          ways_kept = d.ways_kept;
-          firsts_hold = stamped_as first_cells layout_limit (under ps d.done) (properly_in_subtree ps x) (first_leaf ps) old new all d.firsts_hold;
-          lasts_hold = stamped_as last_cells layout_limit (under ps d.done) (properly_in_subtree ps x) (last_leaf ps) old new all d.lasts_hold;
+          depths_kept = d.depths_kept;
+          branches_kept = d.branches_kept;
+          firsts_hold = stamped_as (under ps d.done) (properly_in_subtree ps x) (first_leaf ps) old.first_leaves new.first_leaves all d.firsts_hold;
+          lasts_hold = stamped_as (under ps d.done) (properly_in_subtree ps x) (last_leaf ps) old.last_leaves new.last_leaves all d.lasts_hold;
         }
 
 -- ---- the two functions' own steps
 
-module _ (ps links : List ℕ) (x next : ℕ) (cells : List ℕ) (n : Numberable ps links x next cells) where
+module _ (ps : List ℕ) (links : Links) (x next : ℕ) (n : Numberable ps links x next) where
   -- the next leaf is one of the tree's
   pub next_small : next < length ps
   next_small = omega (arith, n.start, last_is ps n.tree x n.known, last_lt ps n.tree x n.known, leaves_nonempty ps x)
 
-  first_child : get_or links x 0 ≡ head_d (children ps x) FFFF
+  first_child : get_or links.first_children x 0 ≡ head_d (children ps x) FFFF
   first_child = n.linked.child_at x n.known ∙ ap (λ (l : List ℕ). head_d l FFFF) (children_from_lem ps x)
 
   -- a layout with no children is a leaf
-  pub leaf_numbered : get_or links x 0 ≡ FFFF → Numbered ps (properly_in_subtree ps x) x cells (next + 1) cells
-  leaf_numbered e =
+  pub leaf_numbered : get_or links.first_children x 0 ≡ FFFF → (settled : SettledTree) → Numbered ps (properly_in_subtree ps x) x settled (next + 1) settled
+  leaf_numbered e settled =
       let small : (d : ℕ) → Memᴰ d (children ps x) → d < FFFF = λ d m. omega (arith, n.tree.small, (child_parent ps n.tree {y = d} n.known m).0) in
       let none : children ps x ≡ [] = no_head (children ps x) (sym e ∙ first_child) small in
       let nobody : (y : ℕ) → under ps [] y ≡ properly_in_subtree ps x y = λ y. ap (λ (l : List ℕ). under ps l y) (sym none) ∙ under_all ps n.tree x n.known y in
       record {
         after = rw (n.start, leaves_of_leaf ps n.tree x n.known none);
-        same = refl;
-        ways_kept = λ y h. refl;
-        firsts_hold = stamped_as first_cells layout_limit (under ps []) (properly_in_subtree ps x) (first_leaf ps) cells cells nobody (nothing_under first_cells ps (first_leaf ps) cells);
-        lasts_hold = stamped_as last_cells layout_limit (under ps []) (properly_in_subtree ps x) (last_leaf ps) cells cells nobody (nothing_under last_cells ps (last_leaf ps) cells);
+        depths_kept = refl;
+        branches_kept = refl;
+        firsts_hold = stamped_as (under ps []) (properly_in_subtree ps x) (first_leaf ps) settled.first_leaves settled.first_leaves nobody (nothing_under ps (first_leaf ps) settled.first_leaves);
+        lasts_hold = stamped_as (under ps []) (properly_in_subtree ps x) (last_leaf ps) settled.last_leaves settled.last_leaves nobody (nothing_under ps (last_leaf ps) settled.last_leaves);
       }
 
-  pub some_children : ((get_or links x 0 ≡ FFFF) → ⊥) → 0 < length (children ps x)
+  pub some_children : ((get_or links.first_children x 0 ≡ FFFF) → ⊥) → 0 < length (children ps x)
   unfolding head_d
   some_children other = go (children ps x) refl
     where
@@ -263,30 +263,26 @@ module _ (ps links : List ℕ) (x next : ℕ) (cells : List ℕ) (n : Numberable
       go [] e = absurd (other (first_child ∙ rw e))
       go (d ∷ l) e = rw e (omega arith)
 
-  own_cell : (base : ℕ) (f : ℕ → ℕ) (old new : List ℕ) (v : ℕ) → base + x < length new → v ≡ f x → Stamped base layout_limit (properly_in_subtree ps x) f old new → Stamped base layout_limit (in_subtree ps x) f old (set new (base + x) v)
-  own_cell base f old new v room e s =
-      stamped_as base layout_limit (λ (y : ℕ). eqb y x || properly_in_subtree ps x y) (in_subtree ps x) f old (set new (base + x) v) (below_or_self ps n.tree x n.known)
-      (stamped_set base layout_limit (properly_in_subtree ps x) f old new x v room e s)
+  own_cell : (f : ℕ → ℕ) (old new : List ℕ) (v : ℕ) → length new ≡ layout_limit → v ≡ f x → Stamped (properly_in_subtree ps x) f old new → Stamped (in_subtree ps x) f old (set new x v)
+  own_cell f old new v room e s =
+      stamped_as (λ (y : ℕ). eqb y x || properly_in_subtree ps x y) (in_subtree ps x) f old (set new x v) (below_or_self ps n.tree x n.known)
+      (stamped_set (properly_in_subtree ps x) f old new x v (omega (arith, n.known, n.tree.small)) e s)
 
-  -- a layout's own cells, beside those of its descendants
-  pub self_numbered : (r : ℕ) (new : List ℕ) → Numbered ps (properly_in_subtree ps x) x cells r new → Numbered ps (in_subtree ps x) x cells r (set (set new (first_cells + x) next) (last_cells + x) (r - 1))
-  self_numbered r new b =
-      let last : r - 1 ≡ last_leaf ps x = omega (arith, b.after, last_is ps n.tree x n.known) in
-      let inside : x < layout_limit = omega (arith, n.known, n.tree.small) in
-      let room : length new ≡ tree_cells = b.same ∙ n.room in
-      let room' : length (set new (first_cells + x) next) ≡ tree_cells = length-set new (first_cells + x) next ∙ room in
-      record {
-        after = b.after;
-        same = rw (length-set, length-set) b.same;
-        ways_kept = λ y h. get_or-set_other (set new (first_cells + x) next) (last_cells + x) y (r - 1) 0 (omega arith) ∙ get_or-set_other new (first_cells + x) y next 0 (omega arith) ∙ b.ways_kept y h;
-        firsts_hold = stamped_other first_cells layout_limit (in_subtree ps x) (first_leaf ps) cells (set new (first_cells + x) next) (last_cells + x) (r - 1) (λ y h e. omega arith)
-            (own_cell first_cells (first_leaf ps) cells new next (omega arith) n.start b.firsts_hold);
-        lasts_hold = own_cell last_cells (last_leaf ps) cells (set new (first_cells + x) next) (r - 1) (omega arith) last
-            (stamped_other last_cells layout_limit (properly_in_subtree ps x) (last_leaf ps) cells new (first_cells + x) next (λ y h e. omega arith) b.lasts_hold);
-      }
+  module _ (old new : SettledTree) where
+    -- a layout's own cells, beside those of its descendants
+    pub self_numbered : length new.first_leaves ≡ layout_limit → length new.last_leaves ≡ layout_limit → (r : ℕ) → Numbered ps (properly_in_subtree ps x) x old r new → Numbered ps (in_subtree ps x) x old r (record new { first_leaves = set new.first_leaves x next; last_leaves = set new.last_leaves x (r - 1) })
+    self_numbered first_room last_room r b =
+        let last : r - 1 ≡ last_leaf ps x = omega (arith, b.after, last_is ps n.tree x n.known) in
+        record {
+          after = b.after;
+          depths_kept = b.depths_kept;
+          branches_kept = b.branches_kept;
+          firsts_hold = own_cell (first_leaf ps) old.first_leaves new.first_leaves next first_room n.start b.firsts_hold;
+          lasts_hold = own_cell (last_leaf ps) old.last_leaves new.last_leaves (r - 1) last_room last b.lasts_hold;
+        }
 
-  -- what numbering the children passes on to numbering the current one
-  pub child_numberable : (new : List ℕ) (c after : ℕ) (d : ChildrenDone ps x cells new c after) → ((c ≡ FFFF) → ⊥) → Numberable ps links c after new
-  child_numberable new c after d other =
-      let h : Current ps n.tree x n.known d.done c after = current_child ps n.tree x n.known cells new c after d other in
-      record { tree = n.tree; linked = n.linked; room = d.same ∙ n.room; known = h.inside; start = h.start }
+    -- what numbering the children passes on to numbering the current one
+    pub child_numberable : (c after : ℕ) (d : ChildrenDone ps x old new c after) → ((c ≡ FFFF) → ⊥) → Numberable ps links c after
+    child_numberable c after d other =
+        let h : Current ps n.tree x n.known d.done c after = current_child ps n.tree x n.known old new c after d other in
+        record { tree = n.tree; linked = n.linked; known = h.inside; start = h.start }

@@ -1,3 +1,2 @@
 -- Laws that the proofs of *Settle layouts* cite.
-pub mod Copies
 pub mod Outcome

@@ -1,37 +1,21 @@
 // *Settle layouts* (document 01, "What each operation turns away"): depth, first leaf and last leaf of each layout, in lent results.
 #![tactic(auto)]
 
-ghost use Rattle.std.specs.Prelude.{◌≡◌, ℕ, ◌+◌, ◌≤◌, length, get_or};
-ghost use Rattle.model.specs.Verdict.{refuses};
-ghost use Rattle.model.specs.Answers.{settled_answer};
+ghost use Rattle.std.specs.Prelude.{◌≡◌, ℕ, ◌<◌, ◌≤◌, ◌++◌, map, drop, length, get_or};
+ghost use Rattle.model.specs.Lists.{numbers};
+ghost use Rattle.model.specs.Tree.{layout_limit};
 ghost use Rattle.model.specs.Outcomes.{SettleOutcome};
-ghost use Rattle.settle.specs.Spanned.{tree_cells};
-ghost use Rattle.settle.specs.Numbering.{Stamped, below};
 
-use model::{Refusal, Settled};
-use settle::{DEPTH, FIRST, LAST, TREE};
+use model::{LayoutNumber, Reason, Refusal};
+use settle::SettledTree;
 
-// A result has no cell for some layout.
-fn too_short() -> Settled
-    ensures { settled_answer result ≡ refuses 8 0 }
-{
-    Settled::Refused(Refusal {
-        number: 8,
-        place: 0,
-    })
-}
-
-// Copies `count` cells of a tree array from `from` on, and leaves the cells after them as they were.
-fn copy_out(tree: &[u16; TREE], from: usize, count: usize, results: &mut [u16])
-    requires count_bound { from + count ≤ tree_cells }
+// Copies what a column of the tree has for the first `count` layouts, and leaves the cells after them as they were.
+fn copy_out(column: &[u16; LayoutNumber::LIMIT], count: usize, results: &mut [u16])
+    requires count_bound { count ≤ layout_limit }
     requires count_in_bounds { count ≤ length results.old }
-    ensures { Stamped 0 (length results.old) (below count) (λ (y : ℕ). get_or tree.now (from + y) 0) results.old results.new }
+    ensures { (f : ℕ → ℕ) → ((x : ℕ) → x < count → get_or column.now x 0 ≡ f x) → results.new ≡ map f (numbers count) ++ drop count results.old }
 {
-    let mut x = 0;
-    while x < count {
-        results[x] = tree[from + x];
-        x += 1;
-    }
+    results[..count].copy_from_slice(&column[..count]);
 }
 
 // Depth, first leaf and last leaf of each layout, or one refusal.
@@ -40,27 +24,21 @@ pub fn settle_layouts(
     depths: &mut [u16],
     firsts: &mut [u16],
     lasts: &mut [u16],
-) -> Settled
+) -> Result<(), Refusal>
     ensures { SettleOutcome parents.now depths.old firsts.old lasts.old result depths.new firsts.new lasts.new }
 {
     let count = parents.len();
-    if depths.len() < count {
-        return too_short();
+    if depths.len() < count || firsts.len() < count || lasts.len() < count {
+        return Err(Refusal {
+            reason: Reason::WrongBuffers,
+            place: 0,
+        });
     }
-    if firsts.len() < count {
-        return too_short();
-    }
-    if lasts.len() < count {
-        return too_short();
-    }
-    let checked = settle::check_layouts(parents);
-    if let Settled::Refused(r) = checked {
-        return Settled::Refused(r);
-    }
-    let mut tree = [0; TREE];
-    settle::settle_tree(parents, &mut tree);
-    copy_out(&tree, DEPTH, count, depths);
-    copy_out(&tree, FIRST, count, firsts);
-    copy_out(&tree, LAST, count, lasts);
-    Settled::Done
+    settle::check_layouts(parents)?;
+    let mut tree = SettledTree::new();
+    tree.settle(parents);
+    copy_out(&tree.depths, count, depths);
+    copy_out(&tree.first_leaves, count, firsts);
+    copy_out(&tree.last_leaves, count, lasts);
+    Ok(())
 }

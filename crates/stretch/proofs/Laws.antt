@@ -1,65 +1,53 @@
 -- Laws in the shape that the functions' proofs ask for. The passes of the two loops: what has been walked, and the definition of what
 -- remains, make the definition of the whole. Then the cases of `leading`, and the outcome from its case.
-use Prim.Native.Nat.{ℕ, suc, ◌+◌, ◌*◌, ◌≤◌, ◌<◌}
+use Prim.Native.Nat.{ℕ, ◌+◌, ◌*◌, ◌≤◌, ◌<◌}
 use mathlib.Core.Path.{◌≡◌, refl, sym}
 use mathlib.Core.Logic.{⊎_elim}
 use mathlib.Core.Bool.{true, false}
 use mathlib.Core.List.{List, [], ◌∷◌}
 use native.Mathlib.Nat.{suc-ne-zero}
 use native.Mathlib.Omega.{arith}
-use native.Mathlib.Numerals.{add-one}
 use lib.ListN.{length, get_or, take, drop, drop_of_length-le}
-use lib.Seq.{drop-cons, length-take-le}
+use lib.Seq.{length-take-le}
 use lib.Dec.{eqb}
 use denote.Ref.{Bor}
+use Rattle.std.specs.Prelude.{Some, None, position, take_while, zip}
+use Rattle.std.specs.List.{position_or_len}
+use Rattle.std.proofs.Common.{◌∙◌, one-add, inl, inr, lt-ltb}
+use Rattle.std.proofs.Math.Decide.{dec_lt}
+use Rattle.std.proofs.lemmas.List.Sums.{position_or_len_is}
+use Rattle.std.proofs.lemmas.List.Recursion.{is_position_or_len}
+use Rattle.std.proofs.lemmas.List.Quantifiers.{position-Some}
 use Rattle.model.specs.Stretch.{agreement, leading, Stretch, stretch_of, begun, numbers_of, dropped, StretchOutcome}
 use Rattle.model.specs.Lists.{index_of}
-use Rattle.laws.specs.Places.{index_here, index_there}
 use Rattle.laws.specs.Booleans.{answers}
-use Rattle.stretch.specs.StretchLaws.{agreement_same, agreement_differs, agreement_nil, leading_le, StretchGiven}
+use Rattle.stretch.specs.StretchLaws.{agreement_nil, leading_le, StretchGiven}
 
--- x does not stand in the first n of ys
-module _ (x : ℕ) (ys : List ℕ) (n : ℕ) (walked : n + index_of x (drop n ys) ≡ index_of x ys) where
-  pub place_found : n < length ys → get_or ys n 0 ≡ x → n ≡ index_of x ys
-  place_found h e =
-      let here : index_of x (drop n ys) ≡ 0 = rw (drop-cons ys n 0 h) (index_here _ (sym e)) in
-      omega arith
+-- the place of a number is the first at which the test for it passes
+index_is : (x : ℕ) (ys : List ℕ) → index_of x ys ≡ position_or_len (eqb x) ys
+unfolding index_of
+index_is x = is_position_or_len (index_of x) (eqb x) refl (λ y ys. rw (one-add (index_of x ys)))
 
-  pub place_next : n < length ys → (get_or ys n 0 ≡ x → ⊥) → (n + 1) + index_of x (drop (n + 1) ys) ≡ index_of x ys
-  place_next h e =
-      let later : index_of x (drop n ys) ≡ suc (index_of x (drop (n + 1) ys)) = rw (drop-cons ys n 0 h, add-one) (index_there _ (λ s. e (sym s))) in
-      omega arith
+index_found : (x : ℕ) (ys : List ℕ) (n : ℕ) → position (eqb x) ys ≡ Some n → n ≡ index_of x ys
+index_found x ys n e =
+    let first = position-Some (eqb x) ys n 0 e in
+    sym (index_is x ys ∙ position_or_len_is (eqb x) ys n 0 (omega (arith, first.0)) first.2 (λ h. first.1))
 
-  pub place_absent : length ys ≤ n → n ≡ index_of x ys
-  unfolding index_of
-  place_absent h =
-      let none : index_of x (drop n ys) ≡ 0 = rw (drop_of_length-le ys h) in
-      omega arith
+index_none : (x : ℕ) (ys : List ℕ) → position (eqb x) ys ≡ None → length ys ≤ index_of x ys
+index_none x ys e = rw (index_is x ys) (elim (dec_lt (position_or_len (eqb x) ys) (length ys)) [
+  | yes less ↦ let found : position (eqb x) ys ≡ Some (position_or_len (eqb x) ys) = rw (lt-ltb _ _ less) in cc
+  | no more ↦ omega arith
+])
 
--- the first n numbers of xs and ys agree
-module _ (xs ys : List ℕ) (n : ℕ) (walked : n + agreement (drop n xs) (drop n ys) ≡ agreement xs ys) where
-  pub agreement_next : n < length xs → n < length ys → get_or xs n 0 ≡ get_or ys n 0
-      → (n + 1) + agreement (drop (n + 1) xs) (drop (n + 1) ys) ≡ agreement xs ys
-  agreement_next h l e =
-      let same : agreement (drop n xs) (drop n ys) ≡ suc (agreement (drop (n + 1) xs) (drop (n + 1) ys)) =
-      rw (drop-cons xs n 0 h, drop-cons ys n 0 l, add-one) (agreement_same _ _ _ _ e) in
-      omega arith
-
-  pub agreement_stops : n < length xs → n < length ys → (get_or xs n 0 ≡ get_or ys n 0 → ⊥) → n ≡ agreement xs ys
-  agreement_stops h l e =
-      let none : agreement (drop n xs) (drop n ys) ≡ 0 = rw (drop-cons xs n 0 h, drop-cons ys n 0 l) (agreement_differs _ _ _ _ e) in
-      omega arith
-
-  pub agreement_ends : length xs ≤ n → n ≡ agreement xs ys
-  unfolding agreement
-  agreement_ends h =
-      let none : agreement (drop n xs) (drop n ys) ≡ 0 = rw (drop_of_length-le xs h) in
-      omega arith
-
-  pub agreement_ends_other : length ys ≤ n → n ≡ agreement xs ys
-  agreement_ends_other h =
-      let none : agreement (drop n xs) (drop n ys) ≡ 0 = rw (drop_of_length-le ys h) (agreement_nil _) in
-      omega arith
+-- the agreement of two lists is how many of their first pairs are of equal numbers
+pub agreement_zipped : (xs ys : List ℕ) → length (take_while (λ (p : ℕ × ℕ). eqb p.0 p.1) (zip xs ys)) ≡ agreement xs ys
+unfolding agreement
+agreement_zipped [] ys = refl
+agreement_zipped (x ∷ xs) [] = refl
+agreement_zipped (x ∷ xs) (y ∷ ys) = elim (answers (eqb x y)) [
+  | inl same ↦ rw (same, one-add, agreement_zipped xs ys)
+  | inr other ↦ rw other
+]
 
 -- a list with no number has no leading part
 pub leading_none : (xs ys : List ℕ) → length xs ≡ 0 → 0 ≡ leading xs ys
@@ -67,11 +55,16 @@ unfolding leading
 leading_none [] ys h = refl
 leading_none (x ∷ xs) ys h = absurd (suc-ne-zero _ h)
 
--- of any other list the first number is read
-pub leading_from : (xs ys : List ℕ) → (length xs ≡ 0 → ⊥) → agreement xs (drop (index_of (get_or xs 0 0) ys) ys) ≡ leading xs ys
+-- of any other list the first number is read, and sought in the other list
+pub leading_from : (xs ys : List ℕ) (x n : ℕ) → 0 < length xs → x ≡ get_or xs 0 0 → position (eqb x) ys ≡ Some n → agreement xs (drop n ys) ≡ leading xs ys
 unfolding leading
-leading_from [] ys h = absurd (h refl)
-leading_from (x ∷ xs) ys h = refl
+leading_from [] ys x n h e found = absurd (omega arith)
+leading_from (w ∷ xs) ys x n h e found = let is : n ≡ index_of x ys = index_found x ys n found in rw (is, e) refl
+
+pub leading_absent : (xs ys : List ℕ) (x : ℕ) → 0 < length xs → x ≡ get_or xs 0 0 → position (eqb x) ys ≡ None → 0 ≡ leading xs ys
+unfolding leading
+leading_absent [] ys x h e none = absurd (omega arith)
+leading_absent (w ∷ xs) ys x h e none = let beyond : length ys ≤ index_of w ys = index_none w ys (rw e at none) in rw (drop_of_length-le ys beyond) (sym (agreement_nil (w ∷ xs)))
 
 -- a count that is a leading count fits its list
 pub leading_part : (xs ys : List ℕ) (n : ℕ) → n ≡ leading xs ys → n ≡ length (take n xs)

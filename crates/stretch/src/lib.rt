@@ -2,9 +2,8 @@
 // begins.
 #![tactic(auto)]
 
-ghost use Rattle.std.specs.Prelude.{◌≡◌};
-ghost use Rattle.model.specs.Stretch.{agreement, leading, dropped, StretchOutcome};
-ghost use Rattle.model.specs.Lists.{index_of};
+ghost use Rattle.std.specs.Prelude.{◌≡◌, length, position, take_while, zip, eqb};
+ghost use Rattle.model.specs.Stretch.{leading, dropped, StretchOutcome};
 ghost use Rattle.stretch.specs.StretchLaws.{StretchGiven};
 
 use model::LayoutNumber;
@@ -22,11 +21,10 @@ pub fn shared_stretch<'a>(first: &'a [u16], second: &'a [u16]) -> &'a [u16]
 fn dropped(list: &[u16]) -> usize
     ensures { result ≡ dropped list.now }
 {
-    if list.len() == 0 {
+    let Some(&head) = list.first() else {
         return 0;
-    }
-    let head = list[0];
-    if LayoutNumber(head).equals(LayoutNumber(0)) {
+    };
+    if LayoutNumber(head) == LayoutNumber(0) {
         return 1;
     }
     0
@@ -51,41 +49,28 @@ fn stretch_of<'a>(first: &'a [u16], second: &'a [u16]) -> &'a [u16]
 fn leading(list: &[u16], other: &[u16]) -> usize
     ensures { result ≡ leading list.now other.now }
 {
-    if list.len() == 0 {
+    let Some(&head) = list.first() else {
         return 0;
+    };
+    match position_of(LayoutNumber(head), other) {
+        Some(from) => agreement(list, &other[from..]),
+        None => 0,
     }
-    let from = position_of(LayoutNumber(list[0]), other);
-    agreement(list, &other[from..])
 }
 
-// The position at which a layout first stands in `list`; the length where it does not stand there.
-fn position_of(layout: LayoutNumber, list: &[u16]) -> usize
-    ensures { result ≡ index_of layout.0 list.now }
+// The position at which a layout first stands in `list`.
+fn position_of(layout: LayoutNumber, list: &[u16]) -> Option<usize>
+    ensures { result ≡ position (λ x. eqb layout.0 x) list.now }
 {
-    let mut position = 0;
-    while position < list.len() {
-        let here = list[position];
-        if LayoutNumber(here).equals(layout) {
-            return position;
-        }
-        position += 1;
-    }
-    position
+    list.iter().position(|&here| layout == LayoutNumber(here))
 }
 
 // How many leading numbers are the same in both lists.
 fn agreement(list: &[u16], other: &[u16]) -> usize
-    ensures { result ≡ agreement list.now other.now }
+    ensures { result ≡ length (take_while (λ p. eqb p.0 p.1) (zip list.now other.now)) }
 {
-    let mut count = 0;
-    while count < list.len() {
-        if other.len() <= count {
-            return count;
-        }
-        if list[count] != other[count] {
-            return count;
-        }
-        count += 1;
-    }
-    count
+    list.iter()
+        .zip(other)
+        .take_while(|(here, there)| here == there)
+        .count()
 }

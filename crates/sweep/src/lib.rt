@@ -2,16 +2,17 @@
 // knows places, slots, spans of slots, and shelves by window; no tree of layouts, layout or job.
 #![tactic(auto)]
 
-ghost use Rattle.std.specs.Prelude.{◌≡◌, false, ℕ, ◌+◌, ◌*◌, ◌<◌, ◌≤◌, max, length, get_or};
+ghost use Rattle.std.specs.Prelude.{◌≡◌, ◌≢◌, false, ℕ, ◌+◌, ◌*◌, ◌<◌, ◌≤◌, length, get_or, IfSome};
+ghost use Rattle.model.specs.Cells.{place_in, cell_of};
+ghost use Rattle.model.specs.Tree.{FFFF};
 ghost use Rattle.schedule.specs.Schedule.{Schedule};
-ghost use Rattle.schedule.specs.InWork.{slot_part, tree_part, Swept};
-ghost use Rattle.sweep_laws.specs.SegmentTree.{entries_in, insert_entry, remove_entry};
+ghost use Rattle.schedule.specs.InWork.{slot_part, from_part, tree_part, Swept};
+ghost use Rattle.sweep_laws.specs.SegmentTree.{entries_in, insert_entry, remove_entry, smallest};
 ghost use Rattle.sweep_laws.specs.WorkCells.{tree_in, TreeChanged};
-ghost use Rattle.sweep_laws.specs.Sweeping.{Sweepable, ShelfKnown, ShelfAt, Sweeping, UpTo, PlaceInsertable, PlaceRemovable, MateTakable, MateTaken, MateSearchable, PassedBy, MateFound, Asking, Chosen, Steppable, ReachedAt, SteppedFrom};
+ghost use Rattle.sweep_laws.specs.Sweeping.{Sweepable, ShelfKnown, ShelfAt, Sweeping, UpTo, PlaceInsertable, PlaceRemovable, MateTakable, MateTaken, MateSearchable, PassedBy, Asking, Chosen, Steppable, ReachedAt, SteppedFrom};
 
-use buffers::{larger, wide};
 use model::Rank;
-use schedule::{NODES, STARTS};
+use schedule::{DUE, FROM, NODES, REACHED, SLOT, STARTS, TO};
 use segment_tree::{Candidates, Shape, Shelf};
 
 // What a sweep comes to: how many passes have two places, and how many nodes document 01 counts for its lookups.
@@ -37,66 +38,18 @@ struct Progress {
     visits: u32,
 }
 
-// A place comes to wait in the tree.
-fn insert_place(work: &mut [u16], count: usize, shape: Shape, place: Rank)
-    requires { PlaceInsertable count shape.kept shape.width place.0 work.old }
-    ensures { TreeChanged count shape.kept shape.width (insert_entry (get_or work.old (slot_part * count + place.0) 0) place.0 (entries_in shape.width (tree_in count work.old))) work.old work.new }
-{
-    let slot = schedule::slot_at(work, count, place);
-    let start = NODES * count;
-    segment_tree::insert(&mut work[start..], shape, slot, place);
+// How the work cells of a sweep are divided: parts with a cell for each of `count` places, and behind them a segment tree of this shape.
+#[derive(Clone, Copy)]
+pub struct Partition {
+    pub count: usize,
+    pub shape: Shape,
 }
 
-// A place waits no longer.
-pub fn remove_place(work: &mut [u16], count: usize, shape: Shape, place: Rank)
-    requires { PlaceRemovable count shape.kept shape.width place.0 work.old }
-    ensures { TreeChanged count shape.kept shape.width (remove_entry (get_or work.old (slot_part * count + place.0) 0) (entries_in shape.width (tree_in count work.old))) work.old work.new }
-{
-    let slot = schedule::slot_at(work, count, place);
-    let start = NODES * count;
-    segment_tree::remove(&mut work[start..], shape, slot);
-}
-
-// The later of two places.
-fn later(a: Rank, b: Rank) -> Rank
-    ensures { result.0 ≡ max a.0 b.0 }
-{
-    if a.comes_before(b) {
-        return b;
-    }
-    a
-}
-
-// Inserts what is reached at the turn of a place, and answers what is reached then.
-pub fn insert_reached(
-    work: &mut [u16],
-    count: usize,
-    shape: Shape,
-    place: Rank,
-    before: Reached,
-) -> Reached
-    requires { (s : Schedule) × (place.0 < count) × Sweeping s count shape.kept shape.width place.0 before.next work.old × UpTo s count before.next before.last.0 }
-    ensures { ReachedAt count shape.kept shape.width place.0 before.next before.last.0 work.old result.next result.last.0 work.new }
-{
-    let due = schedule::due_at(work, count, place);
-    let mut last = before.last;
-    let mut at = before.next;
-    while at < due {
-        let reached = schedule::reached_at(work, count, at);
-        insert_place(work, count, shape, reached);
-        last = later(last, reached);
-        at += 1;
-    }
-    Reached { next: due, last }
-}
-
-// The shelf of a place, that of its job's window.
-fn shelf_of(work: &[u16], starts: &[u16; STARTS], place: Rank) -> Shelf
-    requires { ShelfKnown starts.now place.0 work.now }
-    ensures { ShelfAt starts.now work.now place.0 result.base result.size }
-{
-    let window = schedule::window_at(work, place).0 as usize;
-    Shelf::between(starts[window], starts[window + 1])
+// What the turn of a place that asks comes to: its mate, if one is found, and how many nodes document 01 counts for its lookup.
+#[derive(Clone, Copy)]
+struct Found {
+    mate: Option<Rank>,
+    visits: u32,
 }
 
 // A span of so many slots is wide: a search of it takes longer than a few tries.
@@ -105,195 +58,199 @@ const WIDE_SPAN: usize = 256;
 // How many places are tried in a wide span, at most.
 const TRIES: usize = 8;
 
-// Whether a place waits in the slots from `from` up to `to`. Only `false` is promised: where the answer is `true`, the lookup tests the place again.
-fn waits(work: &[u16], count: usize, shape: Shape, place: Rank, from: usize, to: usize) -> bool
-    requires place_in_bounds { slot_part * count + place.0 < length work.now }
-    requires width_in_bounds { tree_part * count + 2 * shape.width ≤ length work.now }
-    requires to_le_width { to ≤ shape.width }
-    ensures { result ≡ false → PassedBy count shape.width from to place.0 work.now }
+// The shelf of a place, that of its job's window.
+fn shelf_of(work: &[u16], starts: &[u16; STARTS], place: Rank) -> Shelf
+    requires { ShelfKnown starts.now place.0 work.now }
+    ensures { ShelfAt starts.now work.now place.0 result.base result.size }
 {
-    let slot = schedule::slot_at(work, count, place);
-    if slot < from {
-        return false;
-    }
-    if to <= slot {
-        return false;
-    }
-    let leaf = NODES * count + shape.width + slot;
-    place.equals(Rank(work[leaf]))
+    let window = usize::from(schedule::window_at(work, place).0);
+    Shelf::between(starts[window], starts[window + 1])
 }
 
-// The first place that can be the mate of a place, further on than told where its span is wide: up to TRIES places that do not wait there are passed by.
-fn approach(
-    work: &[u16],
-    count: usize,
-    shape: Shape,
-    place: Rank,
-    candidates: Candidates,
-    to: usize,
-) -> Rank
-    requires { MateSearchable count shape.kept shape.width place.0 candidates.first.0 candidates.last.0 to work.now }
-    ensures { MateSearchable count shape.kept shape.width place.0 result.0 candidates.last.0 to work.now }
-{
-    let from = schedule::from_at(work, count, place);
-    let last = candidates.last;
-    let mut first = candidates.first;
-    if larger(from, to) - from < WIDE_SPAN {
-        return first;
+impl Partition {
+    // A place comes to wait in the tree.
+    fn insert_place(self, work: &mut [u16], place: Rank)
+        requires { PlaceInsertable self.count self.shape.kept self.shape.width place.0 work.old }
+        ensures { TreeChanged self.count self.shape.kept self.shape.width (insert_entry (get_or work.old (slot_part * self.count + place.0) 0) place.0 (entries_in self.shape.width (tree_in self.count work.old))) work.old work.new }
+    {
+        let slot = schedule::number_in::<SLOT>(work, self.count, place);
+        let start = NODES * self.count;
+        segment_tree::insert(&mut work[start..], self.shape, slot, place);
     }
-    let mut tries = 0;
-    while tries < TRIES {
-        if last.comes_before(first) {
+
+    // A place waits no longer.
+    pub fn remove_place(self, work: &mut [u16], place: Rank)
+        requires { PlaceRemovable self.count self.shape.kept self.shape.width place.0 work.old }
+        ensures { TreeChanged self.count self.shape.kept self.shape.width (remove_entry (get_or work.old (slot_part * self.count + place.0) 0) (entries_in self.shape.width (tree_in self.count work.old))) work.old work.new }
+    {
+        let slot = schedule::number_in::<SLOT>(work, self.count, place);
+        let start = NODES * self.count;
+        segment_tree::remove(&mut work[start..], self.shape, slot);
+    }
+
+    // Inserts what is reached at the turn of a place, and answers what is reached then.
+    pub fn insert_reached(self, work: &mut [u16], place: Rank, before: Reached) -> Reached
+        requires { (s : Schedule) × (place.0 < self.count) × Sweeping s self.count self.shape.kept self.shape.width place.0 before.next work.old × UpTo s self.count before.next before.last.0 }
+        ensures { ReachedAt self.count self.shape.kept self.shape.width place.0 before.next before.last.0 work.old result.next result.last.0 work.new }
+    {
+        let due = schedule::number_in::<DUE>(work, self.count, place);
+        let mut last = before.last;
+        for at in before.next..due {
+            let reached = schedule::place_in::<REACHED>(work, self.count, at);
+            self.insert_place(work, reached);
+            last = last.max(reached);
+        }
+        Reached { next: due, last }
+    }
+
+    // Whether a place waits in the slots from `from` up to `to`. Only `false` is promised: where the answer is `true`, the lookup tests the place again.
+    fn waits(self, work: &[u16], place: Rank, from: usize, to: usize) -> bool
+        requires place_in_bounds { slot_part * self.count + place.0 < length work.now }
+        requires width_in_bounds { tree_part * self.count + 2 * self.shape.width ≤ length work.now }
+        requires to_le_width { to ≤ self.shape.width }
+        ensures { result ≡ false → PassedBy self.count self.shape.width from to place.0 work.now }
+    {
+        let slot = schedule::number_in::<SLOT>(work, self.count, place);
+        if slot < from || to <= slot {
+            return false;
+        }
+        let leaf = NODES * self.count + self.shape.width + slot;
+        place.0 == work[leaf]
+    }
+
+    // The first place that can be the mate of a place, further on than told where its span is wide: up to TRIES places that do not wait there are passed by.
+    fn approach(self, work: &[u16], place: Rank, candidates: Candidates, to: usize) -> Rank
+        requires { MateSearchable self.count self.shape.kept self.shape.width place.0 candidates.first.0 candidates.last.0 to work.now }
+        ensures { MateSearchable self.count self.shape.kept self.shape.width place.0 result.0 candidates.last.0 to work.now }
+    {
+        let from = schedule::number_in::<FROM>(work, self.count, place);
+        let last = candidates.last;
+        let mut first = candidates.first;
+        if from.max(to) - from < WIDE_SPAN {
             return first;
         }
-        if waits(work, count, shape, first, from, to) {
-            return first;
+        for _ in 0..TRIES {
+            if last < first || self.waits(work, first, from, to) {
+                return first;
+            }
+            first = Rank(first.0 + 1);
         }
-        first = Rank(first.0 + 1);
-        tries += 1;
+        first
     }
-    first
-}
 
-// Looks for the mate of a place that waits no longer, in the span that it asks for, which ends at `to`.
-pub fn find_mate(
-    work: &[u16],
-    count: usize,
-    shape: Shape,
-    place: Rank,
-    candidates: Candidates,
-    to: usize,
-) -> Rank
-    requires { MateSearchable count shape.kept shape.width place.0 candidates.first.0 candidates.last.0 to work.now }
-    ensures { MateFound count shape.width place.0 to work.now result.0 }
-{
-    let from = schedule::from_at(work, count, place);
-    // No slot where the first comes after the last place of all: then the lookup does not look at it.
-    let slot = schedule::slot_at(work, count, candidates.first);
-    let start = NODES * count;
-    segment_tree::lookup(&work[start..], shape, from, to, slot, candidates)
-}
-
-// A place takes the mate that is found, if one is: it waits no longer and asks nobody any more.
-pub fn take_mate(work: &mut [u16], count: usize, shape: Shape, place: Rank, mate: Rank)
-    requires { MateTakable count shape.kept shape.width mate.0 work.old }
-    ensures { MateTaken count shape.kept shape.width place.0 mate.0 work.old work.new }
-{
-    if mate.is_none() {
-        return;
+    // Looks for the mate of a place that waits no longer, in the span that it asks for, which ends at `to`.
+    pub fn find_mate(
+        self,
+        work: &[u16],
+        place: Rank,
+        candidates: Candidates,
+        to: usize,
+    ) -> Option<Rank>
+        requires { MateSearchable self.count self.shape.kept self.shape.width place.0 candidates.first.0 candidates.last.0 to work.now }
+        ensures { result ≡ place_in (smallest (entries_in self.shape.width (tree_in self.count work.now)) (get_or work.now (from_part * self.count + place.0) 0) to) }
+    {
+        let from = schedule::number_in::<FROM>(work, self.count, place);
+        // No slot where the first comes after the last place of all: then the lookup does not look at it.
+        let slot = schedule::number_in::<SLOT>(work, self.count, candidates.first);
+        let start = NODES * self.count;
+        segment_tree::lookup(&work[start..], self.shape, from, to, slot, candidates)
     }
-    remove_place(work, count, shape, mate);
-    schedule::set_mate(work, count, mate, place);
-    schedule::end_asking(work, count, mate);
-}
 
-// What the turn of a place that asks comes to: its mate, FFFF for none, and how many nodes document 01 counts for its lookup.
-#[derive(Clone, Copy)]
-struct Found {
-    place: Rank,
-    visits: u32,
-}
-
-// The turn of a place that asks for a span of its shelf that ends at `to`: it waits no longer, and has the mate that it takes, or none.
-fn match_place(
-    work: &mut [u16],
-    count: usize,
-    shape: Shape,
-    shelf: Shelf,
-    place: Rank,
-    candidates: Candidates,
-    to: usize,
-) -> Found
-    requires { (s : Schedule) × (next : ℕ) × Asking s count shape.kept shape.width shelf.base shelf.size place.0 candidates.first.0 candidates.last.0 next to work.old }
-    ensures { (s : Schedule) (next : ℕ) → Asking s count shape.kept shape.width shelf.base shelf.size place.0 candidates.first.0 candidates.last.0 next to work.old → Chosen s count shape.kept shape.width place.0 next work.old result.place.0 result.visits work.new }
-{
-    remove_place(work, count, shape, place);
-    let from = schedule::from_at(work, count, place);
-    let visits = segment_tree::lookup_visits(shelf, from, to);
-    let last = candidates.last;
-    let first = approach(work, count, shape, place, candidates, to);
-    let further = Candidates { first, last };
-    let mate = find_mate(work, count, shape, place, further, to);
-    take_mate(work, count, shape, place, mate);
-    schedule::set_mate(work, count, place, mate);
-    Found {
-        place: mate,
-        visits,
+    // A place takes the mate that is found, if one is: it waits no longer and asks nobody any more.
+    pub fn take_mate(self, work: &mut [u16], place: Rank, mate: Option<Rank>)
+        requires takable { MateTakable self.count self.shape.kept self.shape.width (cell_of mate) work.old }
+        requires is_place { IfSome mate (λ mate. mate.0 ≢ FFFF) }
+        ensures { MateTaken self.count self.shape.kept self.shape.width place.0 (cell_of mate) work.old work.new }
+    {
+        let Some(mate) = mate else {
+            return;
+        };
+        self.remove_place(work, mate);
+        schedule::set_mate(work, self.count, mate, Some(place));
+        schedule::end_asking(work, self.count, mate);
     }
-}
 
-// The turn of a place: what is due is reached, and the place, unless it is taken, opens a pass, with the mate that it finds or alone.
-fn step(
-    work: &mut [u16],
-    count: usize,
-    starts: &[u16; STARTS],
-    gaps: &[u8],
-    shape: Shape,
-    place: Rank,
-    progress: Progress,
-) -> Progress
-    requires { Steppable count starts.now gaps.now shape.kept shape.width place.0 progress.reached.next progress.reached.last.0 progress.passes progress.pairs progress.visits work.old }
-    ensures { SteppedFrom count starts.now gaps.now shape.kept shape.width place.0 progress.reached.next progress.reached.last.0 progress.passes progress.pairs progress.visits work.old result.reached.next result.reached.last.0 result.passes result.pairs result.visits work.new }
-{
-    let passes = progress.passes;
-    let pairs = progress.pairs;
-    let visits = progress.visits;
-    let reached_before = progress.reached;
-    let reached = insert_reached(work, count, shape, place, reached_before);
-    // The span ends at 0 where the place asks nobody, or is taken.
-    let to = schedule::to_at(work, count, place);
-    if 0 < to {
-        let shelf = shelf_of(work, starts, place);
-        let first = schedule::near_to(gaps, place);
-        let last = reached.last;
-        let candidates = Candidates { first, last };
-        let found = match_place(work, count, shape, shelf, place, candidates, to);
-        schedule::set_opener(work, count, passes, place);
-        if found.place.is_none() {
+    // The turn of a place that asks for a span of its shelf that ends at `to`: it waits no longer, and has the mate that it takes, or none.
+    fn match_place(
+        self,
+        work: &mut [u16],
+        shelf: Shelf,
+        place: Rank,
+        candidates: Candidates,
+        to: usize,
+    ) -> Found
+        requires { (s : Schedule) × (next : ℕ) × Asking s self.count self.shape.kept self.shape.width shelf.base shelf.size place.0 candidates.first.0 candidates.last.0 next to work.old }
+        ensures chosen { (s : Schedule) (next : ℕ) → Asking s self.count self.shape.kept self.shape.width shelf.base shelf.size place.0 candidates.first.0 candidates.last.0 next to work.old → Chosen s self.count self.shape.kept self.shape.width place.0 next work.old (cell_of result.mate) result.visits work.new }
+        ensures mate_is_a_place { IfSome result.mate (λ mate. mate.0 ≢ FFFF) }
+    {
+        self.remove_place(work, place);
+        let from = schedule::number_in::<FROM>(work, self.count, place);
+        let visits = segment_tree::lookup_visits(shelf, from, to);
+        let last = candidates.last;
+        let first = self.approach(work, place, candidates, to);
+        let further = Candidates { first, last };
+        let mate = self.find_mate(work, place, further, to);
+        self.take_mate(work, place, mate);
+        schedule::set_mate(work, self.count, place, mate);
+        Found { mate, visits }
+    }
+
+    // The turn of a place: what is due is reached, and the place, unless it is taken, opens a pass, with the mate that it finds or alone.
+    fn step(
+        self,
+        work: &mut [u16],
+        starts: &[u16; STARTS],
+        gaps: &[u8],
+        place: Rank,
+        progress: Progress,
+    ) -> Progress
+        requires { Steppable self.count starts.now gaps.now self.shape.kept self.shape.width place.0 progress.reached.next progress.reached.last.0 progress.passes progress.pairs progress.visits work.old }
+        ensures { SteppedFrom self.count starts.now gaps.now self.shape.kept self.shape.width place.0 progress.reached.next progress.reached.last.0 progress.passes progress.pairs progress.visits work.old result.reached.next result.reached.last.0 result.passes result.pairs result.visits work.new }
+    {
+        let reached = self.insert_reached(work, place, progress.reached);
+        // The span ends at 0 where the place asks nobody, or is taken.
+        let to = schedule::number_in::<TO>(work, self.count, place);
+        if 0 < to {
+            let shelf = shelf_of(work, starts, place);
+            let first = schedule::near_to(gaps, place);
+            let last = reached.last;
+            let candidates = Candidates { first, last };
+            let found = self.match_place(work, shelf, place, candidates, to);
+            schedule::set_opener(work, self.count, progress.passes, place);
+            let pairs = match found.mate {
+                Some(_) => progress.pairs + 1,
+                None => progress.pairs,
+            };
             return Progress {
                 reached,
-                passes: passes + 1,
+                passes: progress.passes + 1,
                 pairs,
-                visits: visits + found.visits,
+                visits: progress.visits + found.visits,
             };
         }
-        return Progress {
+        // A place that is taken has a mate, which opened their pass.
+        if schedule::mate_at(work, self.count, place).is_some() {
+            return Progress {
+                reached,
+                ..progress
+            };
+        }
+        schedule::set_opener(work, self.count, progress.passes, place);
+        Progress {
             reached,
-            passes: passes + 1,
-            pairs: pairs + 1,
-            visits: visits + found.visits,
-        };
-    }
-    // A place that is taken has a mate, which opened their pass.
-    let mate = schedule::mate_at(work, count, place);
-    if !mate.is_none() {
-        return Progress {
-            reached,
-            passes,
-            pairs,
-            visits,
-        };
-    }
-    schedule::set_opener(work, count, passes, place);
-    Progress {
-        reached,
-        passes: passes + 1,
-        pairs,
-        visits,
+            passes: progress.passes + 1,
+            ..progress
+        }
     }
 }
 
 // How many slots the longest shelf has. Only the speed depends on it, so nothing is promised.
 pub fn longest_shelf(starts: &[u16; STARTS]) -> usize {
     let mut longest = 0;
-    let mut window = 0;
-    while window + 1 < STARTS {
-        let begin = wide(starts[window]);
-        let end = larger(begin, wide(starts[window + 1]));
-        longest = larger(longest, end - begin);
-        window += 1;
+    for shelf in starts.windows(2) {
+        longest = longest.max(shelf[1].saturating_sub(shelf[0]));
     }
-    longest
+    usize::from(longest)
 }
 
 // Every place has its turn, in the running order. `starts` tells by window where its shelf begins, `gaps` by place how far ahead to look first for its mate.
@@ -302,6 +259,7 @@ pub fn sweep(work: &mut [u16], count: usize, starts: &[u16; STARTS], gaps: &[u8]
     ensures { Swept count starts.now work.old result.pairs result.visits work.new }
 {
     let shape = segment_tree::shape_for(count, longest_shelf(starts));
+    let partition = Partition { count, shape };
     let start = NODES * count;
     segment_tree::clear(&mut work[start..], shape);
     let mut progress = Progress {
@@ -313,10 +271,8 @@ pub fn sweep(work: &mut [u16], count: usize, starts: &[u16; STARTS], gaps: &[u8]
         pairs: 0,
         visits: 0,
     };
-    let mut i = 0;
-    while i < count {
-        progress = step(work, count, starts, gaps, shape, Rank(i as u16), progress);
-        i += 1;
+    for i in 0..count {
+        progress = partition.step(work, starts, gaps, Rank(i as u16), progress);
     }
     Matched {
         pairs: progress.pairs,

@@ -1,12 +1,10 @@
 -- The parts put together: the lines read, their jobs checked, and the outcome of the whole.
-use Rattle.std.specs.Prelude.{ℕ, ◌-◌, ◌≤◌, ◌<◌, Bool, true, false, not, ◌||◌, length, take, replicate, leb, ltb}
+use Rattle.std.specs.Prelude.{ℕ, ◌-◌, ◌≤◌, ◌<◌, Bool, true, false, not, ◌||◌, length, take, replicate, leb, ltb, Option, Result, Ok, Err, is_err}
 use Rattle.std.proofs.Math.Path.{◌≡◌, refl}
-use Rattle.std.proofs.Common.{sym, ap, ◌∙◌, arith, length-take, take-append-drop, ltb-false}
+use Rattle.std.proofs.Common.{sym, ap, ◌∙◌, arith, length-take, take-append-drop, ltb-false, true≢false}
 use mathlib.Core.List.Memᴰ.{head as here}
 use mathlib.Core.List.Memᴰ.{tail as there}
 use mathlib.Core.List.{List, [], ◌∷◌, ◌++◌, map, foldr, Memᴰ as Mem}
-use Rattle.std.proofs.Math.Nat.{sub-zero}
-use Rattle.std.proofs.lemmas.List.{length-replicate}
 use Rattle.std.proofs.Math.Seq.{length-take-le}
 use Rattle.model.specs.Verdict.{Verdict, accepted, refused, refuse_if, ◌then◌, padded}
 use Rattle.model.specs.Lists.{numbers}
@@ -15,11 +13,9 @@ use Rattle.model.specs.Jobs.{Table, jobs, job_limit, window_limit, top, bottom, 
 use Rattle.model.specs.Planning.{jobs_verdict}
 use Rattle.model.specs.Table.{on_its_line, Reading, read, stopped, unless_refused, read_table, buffers_verdict, table_read, read_answer, reading_answer}
 use Rattle.model.specs.Outcomes.{ReadAs}
-use Rattle.model.specs.declared.JobNumber.{JobNumber}
+use Rattle.model.specs.Answers.{reason_number}
 use Rattle.model.specs.declared.Refusal.{Refusal}
 use Rattle.model.specs.declared.Counts.{Counts}
-use Rattle.model.specs.declared.TableRead.{TableRead}
-use Rattle.model.specs.declared.TableRead.TheVariants.{Read, Refused}
 use Rattle.laws.specs.Numbers.{numbers_mem}
 use Rattle.laws.specs.Verdicts.{not_refused}
 use Rattle.laws.specs.Booleans.{or_false_both}
@@ -27,11 +23,10 @@ use Rattle.tree_laws.specs.WellFormed.{Tree, well_formed}
 use Rattle.settle.specs.Spanned.{Spanned}
 use Rattle.jobs.specs.Accepted.{Accepted, table_accepted}
 use Rattle.jobs.specs.Checks.{check_verdict, JobsChecked}
-use Rattle.jobs.specs.declared.JobCheck.{JobCheck}
-use Rattle.jobs.specs.declared.JobCheck.TheVariants as check
+use Rattle.jobs.specs.declared.WrongJob.{WrongJob}
 use Rattle.own_line.specs.OwnLine.{own_line}
 use Rattle.reading.specs.Steps.{judged_at_end, Unused, Spare, Roomy, BuffersReady, held, Holds, EndRead}
-use Rattle.reading.specs.declared.After.{After}
+use Rattle.settle.specs.declared.SettledTree.{SettledTree}
 
 -- ---- the lines
 
@@ -42,13 +37,13 @@ right_tree [] h few right = absurd (omega arith)
 right_tree (p ∷ ps) h few right = well_formed (p ∷ ps) right few
 
 -- a wrong job has its own line, and that is a number of 16 bits
-abbrev pub Placed : List ℕ → JobCheck → Type 0
-Placed bytes c = (number : ℕ) (job : JobNumber) → c ≡ check.Wrong number job → (0 < own_line bytes job.0) × (own_line bytes job.0 < 65536)
+abbrev pub Placed : List ℕ → Result Unit WrongJob → Type 0
+Placed bytes c = (w : WrongJob) → c ≡ Err w → (0 < own_line bytes w.job.0) × (own_line bytes w.job.0 < 65536)
 
 -- the answer tells the reading t: N and M of the table that is read, or the refusal
-abbrev pub Told : Reading → Table → TableRead → Type 0
-Told t tb (Read c) = (t ≡ read tb) × (c.layouts ≡ length tb.parents) × (c.jobs ≡ jobs tb)
-Told t tb (Refused r) = t ≡ stopped r.number r.place
+abbrev pub Told : Reading → Table → Result Counts Refusal → Type 0
+Told t tb (Ok c) = (t ≡ read tb) × (c.layouts ≡ length tb.parents) × (c.jobs ≡ jobs tb)
+Told t tb (Err r) = t ≡ stopped (reason_number r.reason) r.place
 
 -- the job that is refused first is one of the list
 first_refused : (f : ℕ → Verdict) (k : ℕ) (l : List ℕ) (number place : ℕ) → ((j : ℕ) → Mem j l → (n p : ℕ) → f j ≡ refused n p → p < k) → foldr ◌then◌ accepted (map f l) ≡ refused number place → place < k
@@ -76,18 +71,18 @@ refused_job tb number place e =
     (λ j m n p q. omega (arith, own_place tb.parents (top tb j) (bottom tb j) (window tb j) j n p q, numbers_mem (jobs tb) m)) e
 
 -- the reading t is the table of n layouts and m jobs in the first cells, which *Plan* accepts; no other cell is used, and the layouts are settled
-pub record TableHeld (t : Reading) (parents tops bottoms marks windows tree : List ℕ) (n m : ℕ) : Type 0 where
+pub record TableHeld (t : Reading) (parents tops bottoms marks windows : List ℕ) (tree : SettledTree) (n m : ℕ) : Type 0 where
   pub whole : t ≡ read (held parents tops bottoms marks windows n m)
   pub holds : Holds parents tops bottoms marks windows n m
   pub spanned : Spanned (take n parents) tree
   pub table : Accepted (held parents tops bottoms marks windows n m)
 
 -- what a refusal leaves in the cells is open
-abbrev pub LinesOutcome : Reading → List ℕ → List ℕ → List ℕ → List ℕ → List ℕ → List ℕ → TableRead → Type 0
-LinesOutcome t parents tops bottoms marks windows tree (Read c) = TableHeld t parents tops bottoms marks windows tree c.layouts c.jobs
-LinesOutcome t parents tops bottoms marks windows tree (Refused r) = t ≡ stopped r.number r.place
+abbrev pub LinesOutcome : Reading → List ℕ → List ℕ → List ℕ → List ℕ → List ℕ → SettledTree → Result Counts Refusal → Type 0
+LinesOutcome t parents tops bottoms marks windows tree (Ok c) = TableHeld t parents tops bottoms marks windows tree c.layouts c.jobs
+LinesOutcome t parents tops bottoms marks windows tree (Err r) = t ≡ stopped (reason_number r.reason) r.place
 
-module _ (bytes parents tops bottoms marks windows tree : List ℕ) (n m : ℕ) (a : After) (c : JobCheck) (l : EndRead bytes parents tops bottoms marks windows n m a)
+module _ (bytes parents tops bottoms marks windows : List ℕ) (tree : SettledTree) (n m : ℕ) (a : Option Refusal) (c : Result Unit WrongJob) (l : EndRead bytes parents tops bottoms marks windows n m a)
     (spanned : Spanned (take n parents) tree) (k : JobsChecked n (take m tops) (take m bottoms) (take m windows) tree c) where
   counted_layouts : length (take n parents) ≡ n
   counted_layouts = length-take-le n parents l.holds.parents_hold
@@ -100,9 +95,9 @@ module _ (bytes parents tops bottoms marks windows tree : List ℕ) (n m : ℕ) 
   jobs_checked = k.verdict (take n parents) (take m marks) counted_layouts (λ h. spanned)
 
   pub wrong_placed : Placed bytes c
-  wrong_placed number job is =
-      let one : job.0 < length (take m tops) = refused_job (held parents tops bottoms marks windows n m) number job.0 (jobs_checked ∙ ap check_verdict is) in
-      let own = l.standing job.0 (omega (arith, counted_jobs)) in
+  wrong_placed w is =
+      let one : w.job.0 < length (take m tops) = refused_job (held parents tops bottoms marks windows n m) (reason_number w.reason) w.job.0 (jobs_checked ∙ ap check_verdict is) in
+      let own = l.standing w.job.0 (omega (arith, counted_jobs)) in
       (own.0, omega (arith, own.1, l.holds.few_layouts, l.holds.few_jobs_lem))
 
   -- what the bytes come to
@@ -115,9 +110,9 @@ module _ (bytes parents tops bottoms marks windows tree : List ℕ) (n m : ℕ) 
   right_jobs accepted e = refl
   right_jobs (refused number place) e = let apart : ◌≡◌ {A = ℕ} 0 1 = cc in absurd (omega arith)
 
-  pub lines_outcome : (r : TableRead) → Told (judged_at_end bytes (held parents tops bottoms marks windows n m) a (check_verdict c)) (held parents tops bottoms marks windows n m) r → LinesOutcome (read_table bytes) parents tops bottoms marks windows tree r
-  lines_outcome (Refused r) t = judged_is ∙ t
-  lines_outcome (Read x) t =
+  pub lines_outcome : (r : Result Counts Refusal) → Told (judged_at_end bytes (held parents tops bottoms marks windows n m) a (check_verdict c)) (held parents tops bottoms marks windows n m) r → LinesOutcome (read_table bytes) parents tops bottoms marks windows tree r
+  lines_outcome (Err r) t = judged_is ∙ t
+  lines_outcome (Ok x) t =
       let h = l.holds in
       rw (t.1 ∙ counted_layouts, t.2 ∙ counted_jobs)
       (record {
@@ -177,12 +172,6 @@ used_padded v n cells old e u =
     let left : length cells - n ≡ length old - length (take n cells) = rw length-take (omega arith) in
     sym (take-append-drop n cells) ∙ ap (λ (l : List ℕ). take n cells ++ l) (u ∙ ap (λ (k : ℕ). replicate k v) left)
 
--- a buffer that was filled has no used cell
-pub filled_unused : (v : ℕ) (cells old : List ℕ) → cells ≡ replicate (length old) v → Unused v 0 cells
-filled_unused v cells old e =
-    let long : length cells ≡ length old = ap length e ∙ length-replicate (length old) v in
-    rw (sub-zero (length cells), long) e
-
 -- lengths of the buffers are kept
 pub record Kept (parents tops bottoms marks windows parents' tops' bottoms' marks' windows' : List ℕ) : Type 0 where
   pub parents_kept : length parents' ≡ length parents
@@ -208,16 +197,17 @@ cleared_ready bytes parents tops bottoms marks windows parents' tops' bottoms' m
     }
 
 -- refusal 8 changes nothing
-pub sizes_refused : (t : Reading) (parents tops bottoms marks windows : List ℕ)
-    → ReadAs (refused 8 0) t parents tops bottoms marks windows (Refused (record { number = 8; place = 0 })) parents tops bottoms marks windows
+pub sizes_refused : (t : Reading) (parents tops bottoms marks windows : List ℕ) (r : Refusal) → reason_number r.reason ≡ 8 → r.place ≡ 0
+    → ReadAs (refused 8 0) t parents tops bottoms marks windows (Err r) parents tops bottoms marks windows
 unfolding read_answer
-sizes_refused t parents tops bottoms marks windows = record { answered = refl; parents_hold = refl; tops_hold = refl; bottoms_hold = refl; marks_hold = refl; windows_hold = refl }
+sizes_refused t parents tops bottoms marks windows r number place = record { answered = rw (number, place); parents_hold = refl; tops_hold = refl; bottoms_hold = refl; marks_hold = refl; windows_hold = refl }
 
 module _ (t : Reading) (parents tops bottoms marks windows parents' tops' bottoms' marks' windows' : List ℕ) where
-  pub all_read : (tree : List ℕ) (c : Counts) → LinesOutcome t parents' tops' bottoms' marks' windows' tree (Read c)
-      → Kept parents tops bottoms marks windows parents' tops' bottoms' marks' windows' → ReadAs accepted t parents tops bottoms marks windows (Read c) parents' tops' bottoms' marks' windows'
+  pub all_read : (tree : SettledTree) (r : Result Counts Refusal) → is_err r ≡ false → LinesOutcome t parents' tops' bottoms' marks' windows' tree r
+      → Kept parents tops bottoms marks windows parents' tops' bottoms' marks' windows' → ReadAs accepted t parents tops bottoms marks windows r parents' tops' bottoms' marks' windows'
   unfolding read_answer reading_answer table_read
-  all_read tree c o k =
+  all_read tree (Err x) fine o k = absurd (true≢false fine)
+  all_read tree (Ok c) fine o k =
       let whole = o.whole in
       record {
         answered = rw (whole, length-take-le c.layouts parents' o.holds.parents_hold, length-take-le c.jobs tops' o.holds.tops_hold);
@@ -228,10 +218,13 @@ module _ (t : Reading) (parents tops bottoms marks windows parents' tops' bottom
         windows_hold = rw whole (used_padded 0 c.jobs windows' windows k.windows_kept o.holds.spare.windows_spare);
       }
 
-  pub line_refused : (r : Refusal) → t ≡ stopped r.number r.place → Spare parents' tops' bottoms' marks' windows' 0 0 → Kept parents tops bottoms marks windows parents' tops' bottoms' marks' windows'
-      → ReadAs accepted t parents tops bottoms marks windows (Refused r) parents' tops' bottoms' marks' windows'
+  -- what a refusal left in the cells is cleared
+  pub refused_clear : (parents₁ tops₁ bottoms₁ marks₁ windows₁ : List ℕ) (tree : SettledTree) (r : Result Counts Refusal) → is_err r ≡ true → LinesOutcome t parents₁ tops₁ bottoms₁ marks₁ windows₁ tree r
+      → Spare parents' tops' bottoms' marks' windows' 0 0 → Kept parents tops bottoms marks windows parents' tops' bottoms' marks' windows'
+      → ReadAs accepted t parents tops bottoms marks windows r parents' tops' bottoms' marks' windows'
   unfolding read_answer reading_answer table_read
-  line_refused r e clear k =
+  refused_clear parents₁ tops₁ bottoms₁ marks₁ windows₁ tree (Ok c) wrong o clear k = absurd (true≢false (sym wrong))
+  refused_clear parents₁ tops₁ bottoms₁ marks₁ windows₁ tree (Err r) wrong e clear k =
       record {
         answered = rw e;
         parents_hold = rw e (used_padded FFFF 0 parents' parents k.parents_kept clear.parents_spare);

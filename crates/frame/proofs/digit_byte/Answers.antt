@@ -5,5 +5,5 @@ use Rattle.frame.proofs.digit_byte.Goals as goal
 pub returns-then-digit-lt10 : goal.returns-then-digit-lt10
 returns-then-digit-lt10 c = low_byte _ c.if-digit-lt10.true
 
-pub returns : goal.returns
-returns c = high_byte _ c.if-digit-lt10.false c.requires
+pub returns-else-digit-lt10 : goal.returns-else-digit-lt10
+returns-else-digit-lt10 c = high_byte _ c.if-digit-lt10.false c.requires

@@ -1,34 +1,24 @@
 -- `frame::short_frame` meets its contract: of the lines that end after 6 bytes those of kind 1 with a right field are frames.
+use mathlib.Core.Path.{◌≡◌}
 use native.Mathlib.Omega.{arith}
+use lib.ListN.{get_or}
 use borrow.Author.Tests.{ne_eqb}
-use Rattle.model.specs.Table.{beyond_windows}
-use Rattle.frame.proofs.Frames.{ends_within, short_wrong, short_right}
+use Rattle.frame.proofs.Frames.{short_wrong, short_right}
 use Rattle.frame.proofs.short_frame.Goals as goal
 
-pub field-parent-requires : goal.field-parent-requires
-field-parent-requires c = record {
-  digit_values = c.requires.digit_values;
-  at_in_bounds = omega (arith, ends_within 6 c.args.s.now c.requires.s_value);
-}
+pub returns-in_err-parent : goal.returns-in_err-parent
+returns-in_err-parent c = rw (c.from_residual.ensures, short_wrong _ c.requires c.in_err-parent.ensures)
 
-pub returns-then-parent-ge-WRONG_DIGIT : goal.returns-then-parent-ge-WRONG_DIGIT
-returns-then-parent-ge-WRONG_DIGIT c =
-    let f = c.field-parent in
-    rw (c.no_frame.ensures, short_wrong c.args.s.now c.requires.s_value f.result f.ensures c.if-parent-ge-WRONG_DIGIT.true)
+pub returns-in-48 : goal.returns-in-48
+returns-in-48 c =
+    let zero : get_or c.args.s.now 0 0 ≡ 48 = omega arith in
+    let kind : get_or c.args.s.now 1 0 ≡ 49 = omega arith in
+    rw (short_right _ c.requires c.in_ok-parent.ensures, zero, kind)
 
-pub kind_of-requires : goal.kind_of-requires
-kind_of-requires c = omega (arith, ends_within 6 c.args.s.now c.requires.s_value)
+pub returns-in_default-2 : goal.returns-in_default-2
+returns-in_default-2 c =
+    let zero : get_or c.args.s.now 0 0 ≡ 48 = omega arith in
+    rw (short_right _ c.requires c.in_ok-parent.ensures, zero, ne_eqb (get_or c.args.s.now 1 0) 49 (λ e. omega arith))
 
-pub returns-then-kind_of-eq49 : goal.returns-then-kind_of-eq49
-unfolding beyond_windows
-returns-then-kind_of-eq49 c =
-    let f = c.field-parent in
-    let k = c.kind_of in
-    rw (short_right c.args.s.now c.requires.s_value f.result f.ensures c.if-parent-ge-WRONG_DIGIT.false k.result k.ensures, c.if-kind_of-eq49.true)
-
-pub returns : goal.returns
-returns c =
-    let f = c.field-parent in
-    let k = c.kind_of in
-    let frame = short_right c.args.s.now c.requires.s_value f.result f.ensures c.if-parent-ge-WRONG_DIGIT.false k.result k.ensures in
-    rw (c.no_frame-2.ensures, frame, ne_eqb k.result 49 c.if-kind_of-eq49.false)
+pub returns-in_default-3 : goal.returns-in_default-3
+returns-in_default-3 c = rw (short_right _ c.requires c.in_ok-parent.ensures, ne_eqb (get_or c.args.s.now 0 0) 48 (λ e. omega arith))

@@ -1,77 +1,50 @@
--- `frame::windowed_frame` meets its contract: the line is a frame, and is refused where there is no such window.
-use Prim.Native.Nat.{◌<◌}
+-- `frame::windowed_frame` meets its contract: of the lines that end after 12 bytes those of kind 5 with right fields are frames.
 use mathlib.Core.Path.{◌≡◌, sym, ◌∙◌}
-use mathlib.Core.Option.{some}
 use native.Mathlib.Omega.{arith}
-use borrow.Author.Tests.{ltb-true, ltb-false, le-leb, lt-leb}
-use Rattle.model.specs.Table.{window_frame, first_line, frame_of, beyond_windows}
-use Rattle.frame.proofs.Frames.{WindowedFields, windowed_fields, read_right}
+use lib.ListN.{get_or}
+use borrow.Author.Tests.{ne_eqb}
+use Rattle.frame.proofs.Frames.{no_ends, top_wrong, bottom_wrong, window_wrong, windowed_right}
 use Rattle.frame.proofs.windowed_frame.Goals as goal
 
-pub field-top-requires : goal.field-top-requires
-field-top-requires c =
-    let fields : WindowedFields c.args.s.now = windowed_fields _ c.requires.s_value in
-    record {
-      digit_values = c.requires.digit_values;
-      at_in_bounds = omega (arith, fields.within);
-    }
+pub returns-then-not-ends_after : goal.returns-then-not-ends_after
+returns-then-not-ends_after c = rw (no_ends _ c.requires.0 c.requires.1 (sym c.ends_after.ensures ∙ c.if-not-ends_after.true))
 
-pub overflow_cast-top : goal.overflow_cast-top
-overflow_cast-top c =
-    let fields : WindowedFields c.args.s.now = windowed_fields _ c.requires.s_value in
-    let top_fits : c.field-top.result < 65536 = read_right _ _ _ _ c.field-top.ensures fields.top_right in
-    omega (arith, top_fits)
+pub returns-in_err-top : goal.returns-in_err-top
+returns-in_err-top c =
+    let ends = sym c.ends_after.ensures ∙ c.if-not-ends_after.false in
+    rw (c.from_residual.ensures, top_wrong _ c.requires.0 c.requires.1 ends c.in_err-top.ensures)
 
-pub field-bottom-requires : goal.field-bottom-requires
-field-bottom-requires c =
-    let fields : WindowedFields c.args.s.now = windowed_fields _ c.requires.s_value in
-    record {
-      digit_values = c.requires.digit_values;
-      at_in_bounds = omega (arith, fields.within);
-    }
+pub returns-in_err-bottom : goal.returns-in_err-bottom
+returns-in_err-bottom c =
+    let ends = sym c.ends_after.ensures ∙ c.if-not-ends_after.false in
+    rw (c.from_residual-in_err-bottom.ensures, bottom_wrong _ c.requires.0 c.requires.1 ends c.in_err-bottom.ensures)
 
-pub overflow_cast-bottom : goal.overflow_cast-bottom
-overflow_cast-bottom c =
-    let fields : WindowedFields c.args.s.now = windowed_fields _ c.requires.s_value in
-    let bottom_fits : c.field-bottom.result < 65536 = read_right _ _ _ _ c.field-bottom.ensures fields.bottom_right in
-    omega (arith, bottom_fits)
+pub returns-in_err-window : goal.returns-in_err-window
+returns-in_err-window c =
+    let ends = sym c.ends_after.ensures ∙ c.if-not-ends_after.false in
+    rw (c.from_residual-in_err-window.ensures, window_wrong _ c.requires.0 c.requires.1 ends c.in_err-window.ensures)
 
-pub window_field-window-requires : goal.window_field-window-requires
-window_field-window-requires c =
-    let fields : WindowedFields c.args.s.now = windowed_fields _ c.requires.s_value in
-    record {
-      digit_values = c.requires.digit_values;
-      at_in_bounds = omega (arith, fields.within);
-    }
+pub returns-in-48 : goal.returns-in-48
+returns-in-48 c =
+    let ends = sym c.ends_after.ensures ∙ c.if-not-ends_after.false in
+    let zero : get_or c.args.s.now 0 0 ≡ 48 = omega arith in
+    let kind : get_or c.args.s.now 1 0 ≡ 53 = omega arith in
+    rw (windowed_right _ c.requires.0 c.requires.1 ends c.in_ok-top.ensures c.in_ok-bottom.ensures c.in_ok-window.ensures, zero, kind)
 
-pub overflow_cast-window : goal.overflow_cast-window
-overflow_cast-window c =
-    let fields : WindowedFields c.args.s.now = windowed_fields _ c.requires.s_value in
-    let window_fits : c.window_field-window.result < 256 = read_right _ _ _ _ c.window_field-window.ensures fields.window_right in
-    omega (arith, window_fits)
+pub returns-in_default-2 : goal.returns-in_default-2
+returns-in_default-2 c =
+    let ends = sym c.ends_after.ensures ∙ c.if-not-ends_after.false in
+    let zero : get_or c.args.s.now 0 0 ≡ 48 = omega arith in
+    rw (
+      windowed_right _ c.requires.0 c.requires.1 ends c.in_ok-top.ensures c.in_ok-bottom.ensures c.in_ok-window.ensures,
+      zero,
+      ne_eqb (get_or c.args.s.now 1 0) 53 (λ e. omega arith),
+    )
 
-pub returns-then-is_known : goal.returns-then-is_known
-unfolding beyond_windows
-returns-then-is_known c =
-    let fields : WindowedFields c.args.s.now = windowed_fields _ c.requires.s_value in
-    let top_fits : c.field-top.result < 65536 = read_right _ _ _ _ c.field-top.ensures fields.top_right in
-    let bottom_fits : c.field-bottom.result < 65536 = read_right _ _ _ _ c.field-bottom.ensures fields.bottom_right in
-    let window_fits : c.window_field-window.result < 256 = read_right _ _ _ _ c.window_field-window.ensures fields.window_right in
-    let frame_of : frame_of (first_line c.args.s.now)
-    ≡ some (window_frame c.field-top.result c.field-bottom.result c.window_field-window.result) = rw (c.field-top.ensures.value top_fits, c.field-bottom.ensures.value bottom_fits, c.window_field-window.ensures.value window_fits)
-    fields.frame in
-    let v = c.window_field-window.result in
-    rw (frame_of, lt-leb 16 v (ltb-true v 16 (sym c.is_known.ensures ∙ c.if-is_known.true)))
-
-pub returns : goal.returns
-unfolding beyond_windows
-returns c =
-    let fields : WindowedFields c.args.s.now = windowed_fields _ c.requires.s_value in
-    let top_fits : c.field-top.result < 65536 = read_right _ _ _ _ c.field-top.ensures fields.top_right in
-    let bottom_fits : c.field-bottom.result < 65536 = read_right _ _ _ _ c.field-bottom.ensures fields.bottom_right in
-    let window_fits : c.window_field-window.result < 256 = read_right _ _ _ _ c.window_field-window.ensures fields.window_right in
-    let frame_of : frame_of (first_line c.args.s.now)
-    ≡ some (window_frame c.field-top.result c.field-bottom.result c.window_field-window.result) = rw (c.field-top.ensures.value top_fits, c.field-bottom.ensures.value bottom_fits, c.window_field-window.ensures.value window_fits)
-    fields.frame in
-    let v = c.window_field-window.result in
-    rw (frame_of, le-leb 16 v (ltb-false v 16 (sym c.is_known.ensures ∙ c.if-is_known.false)))
+pub returns-in_default-3 : goal.returns-in_default-3
+returns-in_default-3 c =
+    let ends = sym c.ends_after.ensures ∙ c.if-not-ends_after.false in
+    rw (
+      windowed_right _ c.requires.0 c.requires.1 ends c.in_ok-top.ensures c.in_ok-bottom.ensures c.in_ok-window.ensures,
+      ne_eqb (get_or c.args.s.now 0 0) 48 (λ e. omega arith),
+    )

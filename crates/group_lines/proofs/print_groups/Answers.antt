@@ -1,38 +1,31 @@
--- `group_lines::print_groups` meets its contract: the groups, their number and zeros after them.
-use mathlib.Core.Path.{refl}
-use native.Mathlib.Omega.{arith}
+-- The groups, their number and zeros after them.
+use Rattle.std.proofs.Common.{rules, ◌≤◌, refl, ap, arith, length}
+use Rattle.model.specs.Output.{output_bytes}
+use Rattle.lines.specs.Writers.{output}
 use Rattle.ancestry.specs.Room.{roomy_all}
 use Rattle.group_lines.specs.OfTable.{count_small, count_room, groups_printed}
 use Rattle.group_lines.proofs.print_groups.Goals as goal
 
-pub set_minima-requires : goal.set_minima-requires
-set_minima-requires c =
-    let s = c.requires.group_plan.1.spanned in record {
-      spanned = s;
-      roomy = roomy_all _ _ s.tree refl;
-      minima_value = refl;
-    }
+pub new-common-requires-clause-roomy : goal.new-common-requires-clause-roomy
+new-common-requires-clause-roomy c = roomy_all _ _ c.requires.group_plan.1.spanned.tree refl
 
-pub put_groups-end-requires : goal.put_groups-end-requires
-put_groups-end-requires c = record {
-  digits_value = refl;
-  by_index = (c.requires.group_plan.0, _, _, c.requires.group_plan.1, record { spanned = c.requires.group_plan.1.spanned; rows = c.set_minima.ensures });
-  output_bytes_in_bounds = c.requires.output_bytes_in_bounds;
-}
+pub put_groups-requires : goal.put_groups-requires
+put_groups-requires c =
+    let b = c.new-writer.ensures in
+    record {
+      by_index = (c.requires.group_plan.0, c.args.parents.now, c.args.groups, rw c.new-common.ensures.same_tree c.requires.group_plan.1, c.new-common.ensures.searchable);
+      none_written = b.none;
+      output_bytes_in_bounds = omega (arith, c.requires.output_bytes_in_bounds, ap length b.kept);
+    }
 
 pub overflow_cast-groups : goal.overflow_cast-groups
 overflow_cast-groups c = let p = c.requires.group_plan in omega (arith, count_small p.0 _ _ _ _ _ _ _ p.1)
 
-pub put_group_count-length-requires : goal.put_group_count-length-requires
-put_group_count-length-requires c = record {
-  digits_value = refl;
-  at_in_bounds = count_room c.requires.group_plan.0 _ _ _ _ _ _ _ c.requires.group_plan.1 _ _ _ c.requires.output_bytes_in_bounds (c.put_groups-end.ensures c.requires.group_plan.0 _ _ c.requires.group_plan.1 (record { spanned = c.requires.group_plan.1.spanned; rows = c.set_minima.ensures }));
-}
-
-pub clear_from-requires : goal.clear_from-requires
-clear_from-requires c =
-    let put = c.put_group_count-length.ensures in
-    omega (arith, put.moved, put.sized, count_room c.requires.group_plan.0 _ _ _ _ _ _ _ c.requires.group_plan.1 _ _ _ c.requires.output_bytes_in_bounds (c.put_groups-end.ensures c.requires.group_plan.0 _ _ c.requires.group_plan.1 (record { spanned = c.requires.group_plan.1.spanned; rows = c.set_minima.ensures })))
+pub put_group_count-requires : goal.put_group_count-requires
+put_group_count-requires c =
+    let p = c.requires.group_plan in
+    let long : output_bytes ≤ length (output c.new-writer.result) = omega (arith, c.requires.output_bytes_in_bounds, ap length c.new-writer.ensures.kept) in
+    count_room p.0 _ _ _ _ _ _ _ p.1 _ _ _ long (c.put_groups.ensures.appended p.0 _ _ (rw c.new-common.ensures.same_tree p.1) c.new-common.ensures.searchable)
 
 pub returns : goal.returns
-returns c = λ tb p. groups_printed tb _ _ _ _ _ _ _ p _ _ _ _ _ _ c.requires.output_bytes_in_bounds (c.put_groups-end.ensures tb _ _ p (record { spanned = p.spanned; rows = c.set_minima.ensures })) c.put_group_count-length.ensures c.clear_from.ensures
+returns c = λ tb p. groups_printed tb _ _ _ _ _ _ _ p c.new-writer.ensures (c.put_groups.ensures.appended tb _ _ (rw c.new-common.ensures.same_tree p) c.new-common.ensures.searchable) c.put_group_count.ensures c.finish.ensures (search rules)

@@ -1,37 +1,49 @@
 -- Each way that the step can end leaves the sweep at the next place, or tells that a group is not full.
 use Prim.Native.Nat.{◌<◌}
-use mathlib.Core.Path.{refl}
+use mathlib.Core.Path.{refl, sym, ap, ◌∙◌}
 use native.Mathlib.Omega.{arith}
+use Rattle.std.specs.Option.{is_some}
+use Rattle.schedule.specs.Places.{held_none, held_one}
 use Rattle.sweep_laws.specs.Steps.{near_place}
-use Rattle.group_sweep.specs.Steps.{few_groups, stepped_quiet, now_asking, stepped_asked}
+use Rattle.group_sweep.specs.Steps.{few_groups, stepped_taken, stepped_alone, now_asking, stepped_full, stepped_short}
 use Rattle.group_sweep.proofs.group_step.Goals as goal
 
 pub near_to-first-requires : goal.near_to-first-requires
 near_to-first-requires c =
-    let n = near_place _ _ _ c.requires.underway.sweeping.setting.places_are c.requires.shelves.near _ c.requires.inside in
+    let n = near_place _ _ _ c.requires.1.underway.sweeping.setting.places_are c.requires.1.shelves.near _ c.requires.1.inside in
     record {
       place_in_bounds = n.0;
-      place_bound = omega (arith, n.1, c.requires.underway.sweeping.setting.few);
+      place_bound = omega (arith, n.1, c.requires.1.underway.sweeping.setting.few);
     }
 
-pub take_group-full-requires : goal.take_group-full-requires
-take_group-full-requires c =
-    let asks : 0 < c.to_at-to.result = omega (arith, c.if-to-gt0.true) in
-    now_asking _ _ _ _ _ _ _ _ _ _ _ _ c.requires _ _ _ c.insert_reached-reached.ensures _ c.to_at-to.ensures asks _ c.near_to-first.ensures
+pub take_group-requires : goal.take_group-requires
+take_group-requires c =
+    let asks : 0 < c.number_in-to.result = omega (arith, c.if-to-gt0.true) in
+    now_asking _ _ _ _ _ _ _ _ _ _ _ _ c.requires.1 _ _ _ c.insert_reached-reached.ensures _ c.number_in-to.ensures asks _ c.near_to-first.ensures
 
-pub overflow_add-result-then-to-gt0 : goal.overflow_add-result-then-to-gt0
-overflow_add-result-then-to-gt0 c = omega (arith, few_groups _ _ _ _ _ _ _ _ _ _ _ _ c.requires)
+pub returns-in_err-take_group : goal.returns-in_err-take_group
+returns-in_err-take_group c =
+    λ starts p.
+    let asks : 0 < c.number_in-to.result = omega (arith, c.if-to-gt0.true) in
+    rw c.from_residual.ensures
+    (stepped_short _ _ _ _ _ _ _ _ _ _ _ _ p _ _ _ c.insert_reached-reached.ensures _ c.number_in-to.ensures asks _ c.near_to-first.ensures _ _ _ c.take_group.auto.members c.take_group.ensures (ap is_some c.in_err-take_group.was))
+
+pub overflow_add-result : goal.overflow_add-result
+overflow_add-result c = omega (arith, few_groups _ _ _ _ _ _ _ _ _ _ _ _ c.requires.1)
 
 pub returns-then-to-gt0 : goal.returns-then-to-gt0
 returns-then-to-gt0 c =
-    let asks : 0 < c.to_at-to.result = omega (arith, c.if-to-gt0.true) in
-    record {
-      turn_value = refl;
-      group_stepped = stepped_asked _ _ _ _ _ _ _ _ _ _ _ _ c.requires _ _ _ c.insert_reached-reached.ensures _ c.to_at-to.ensures asks _ c.near_to-first.ensures _ _ _ c.take_group-full.auto.members c.take_group-full.ensures;
-    }
+    λ starts p.
+    let asks : 0 < c.number_in-to.result = omega (arith, c.if-to-gt0.true) in
+    stepped_full _ _ _ _ _ _ _ _ _ _ _ _ p _ _ _ c.insert_reached-reached.ensures _ c.number_in-to.ensures asks _ c.near_to-first.ensures _ _ _ c.take_group.auto.members c.take_group.ensures (ap is_some c.in_ok-take_group.was)
+
+pub returns-in_err-mate_at : goal.returns-in_err-mate_at
+returns-in_err-mate_at c =
+    λ starts p.
+    rw c.from_residual-in_err-mate_at.ensures
+    (stepped_alone _ _ _ _ _ _ _ _ _ _ _ _ p _ _ _ c.insert_reached-reached.ensures _ c.number_in-to.ensures (omega (arith, c.if-to-gt0.false)) _ refl (held_none _ (sym c.mate_at.ensures ∙ c.in_err-mate_at.was)))
 
 pub returns : goal.returns
-returns c = record {
-  turn_value = refl;
-  group_stepped = stepped_quiet _ _ _ _ _ _ _ _ _ _ _ _ c.requires _ _ _ c.insert_reached-reached.ensures _ c.to_at-to.ensures (omega (arith, c.if-to-gt0.false)) _ c.mate_at-mate.ensures _ c.is_none-short.ensures;
-}
+returns c =
+    λ starts p.
+    stepped_taken _ _ _ _ _ _ _ _ _ _ _ _ p _ _ _ c.insert_reached-reached.ensures _ c.number_in-to.ensures (omega (arith, c.if-to-gt0.false)) _ refl (held_one _ _ (sym c.mate_at.ensures ∙ c.in_ok-mate_at.was)).1

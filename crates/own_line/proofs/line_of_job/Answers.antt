@@ -29,8 +29,8 @@ returns-then-before-eq0 c =
     ≡ c.loop-at.line = found _ _ _ _ _ c.requires.job_nonzero c.loop-at.invariant (sym told ∙ c.if-ends_after.false) c.if-before-eq0.true in
     sym its_line
 
-pub overflow_add-at-else-ends_after : goal.overflow_add-at-else-ends_after
-overflow_add-at-else-ends_after c =
+pub overflow_add-at-else-before-eq0 : goal.overflow_add-at-else-before-eq0
+overflow_add-at-else-before-eq0 c =
     let wide : c.job_width-at.result ≡ job_width (drop c.loop-at.at c.args.bytes.now) = rw (← rest c.args.bytes.now c.loop-at.at) c.job_width-at.ensures in
     omega (arith, wide, job_wide (drop c.loop-at.at c.args.bytes.now))
 

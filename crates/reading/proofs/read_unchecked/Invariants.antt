@@ -4,8 +4,8 @@ use lib.ListN.{length}
 use Rattle.reading.proofs.Reading.{Reading}
 use Rattle.reading.proofs.read_unchecked.Given as goal
 
-abbrev pub invariant-loop-at : goal.invariant-loop-at
-invariant-loop-at l = Reading l.bytes l.initial.parents l.initial.tops l.initial.bottoms l.initial.marks l.initial.windows l.digits l.parents l.tops l.bottoms l.marks l.windows l.at l.layouts l.jobs l.ends
+abbrev pub invariant-loop-p : goal.invariant-loop-p
+invariant-loop-p l = Reading l.bytes l.initial.parents l.initial.tops l.initial.bottoms l.initial.marks l.initial.windows l.parents l.tops l.bottoms l.marks l.windows l.p.0 l.p.1.0 l.p.1.1.0 l.p.1.1.1.0
 
-abbrev pub decreases-loop-at : goal.decreases-loop-at
-decreases-loop-at l = length l.bytes - l.at
+abbrev pub decreases-loop-p : goal.decreases-loop-p
+decreases-loop-p l = length l.bytes - l.p.0

@@ -1,56 +1,30 @@
--- `run::run_for` meets its contract: 8 and 13 first, and the arrays go by the size of the input.
-use mathlib.Core.Path.{◌≡◌, sym, ◌∙◌}
-use mathlib.Core.Bool.{true}
-use Rattle.run.specs.Whole.{press_known}
-use Rattle.run.specs.Presses.{press_outcome, press_unknown, press_refused}
+-- 8 and 13 first, and then what the run in arrays has done.
+use Rattle.std.proofs.Common.{rules, ◌≡◌, refl, ◌≤◌, true, sym, ◌∙◌, arith, length}
+use Rattle.model.specs.Output.{output_bytes}
+use Rattle.run.specs.Whole.{press_known, told_refused}
+use Rattle.run.specs.Presses.{press_outcome, press_unknown, press_refused, refusal_short, printed_fits, printed_whole}
 use Rattle.run.proofs.run_for.Goals as goal
 
-pub returns-then-output-lt-OUTPUT : goal.returns-then-output-lt-OUTPUT
-returns-then-output-lt-OUTPUT c = press_refused _ _ c.args.press c.if-output-lt-OUTPUT.true
+pub returns-in_default : goal.returns-in_default
+returns-in_default c = press_refused _ _ c.args.press c.in_default.ensures.cases
 
-pub print_refusal-requires : goal.print_refusal-requires
-print_refusal-requires c = c.if-output-lt-OUTPUT.false
+pub returns-then-not-is_known : goal.returns-then-not-is_known
+returns-then-not-is_known c =
+    let parts = c.in-Some.ensures.cases in
+    let long : output_bytes ≤ length c.args.output.now = omega (arith, parts.2) in
+    press_unknown _ _ _ _ c.args.press long (sym c.is_known.ensures ∙ c.if-not-is_known.true) (printed_whole c.in-Some.rest.now long parts.0 parts.2 (refusal_short 13 0 refl) c.print_refusal.ensures (search rules))
 
-pub returns-then-not-press_known : goal.returns-then-not-press_known
-returns-then-not-press_known c = press_unknown _ _ _ _ c.args.press c.if-output-lt-OUTPUT.false (sym c.press_known.ensures ∙ c.if-not-press_known.true) c.print_refusal.ensures
+pub returns-in-Ok : goal.returns-in-Ok
+returns-in-Ok c =
+    let parts = c.in-Some.ensures.cases in
+    let long : output_bytes ≤ length c.args.output.now = omega (arith, parts.2) in
+    let known : press_known c.args.press ≡ true = sym c.is_known.ensures ∙ c.if-not-is_known.false in
+    press_outcome _ _ _ _ c.args.press long known (printed_whole c.in-Some.rest.now long parts.0 parts.2 (printed_fits c.in-Ok.ensures c.run_sized.array_long) c.in-Ok.ensures (search rules))
 
-pub run_few-requires : goal.run_few-requires
-run_few-requires c =
-    let known_of : press_known c.args.press ≡ true = sym c.press_known.ensures ∙ c.if-not-press_known.false in
-    record {
-      output_bytes_in_bounds = c.if-output-lt-OUTPUT.false;
-      input_len_bound = c.if-input-le-FEW_BYTES.true;
-      press_value = known_of;
-    }
-
-pub returns-then-input-le-FEW_BYTES : goal.returns-then-input-le-FEW_BYTES
-returns-then-input-le-FEW_BYTES c =
-    let known_of : press_known c.args.press ≡ true = sym c.press_known.ensures ∙ c.if-not-press_known.false in
-    press_outcome _ _ _ _ c.args.press c.if-output-lt-OUTPUT.false known_of c.run_few.ensures
-
-pub run_some-requires : goal.run_some-requires
-run_some-requires c =
-    let known_of : press_known c.args.press ≡ true = sym c.press_known.ensures ∙ c.if-not-press_known.false in
-    record {
-      output_bytes_in_bounds = c.if-output-lt-OUTPUT.false;
-      input_len_bound = c.if-input-le-SOME_BYTES.true;
-      press_value = known_of;
-    }
-
-pub returns-then-input-le-SOME_BYTES : goal.returns-then-input-le-SOME_BYTES
-returns-then-input-le-SOME_BYTES c =
-    let known_of : press_known c.args.press ≡ true = sym c.press_known.ensures ∙ c.if-not-press_known.false in
-    press_outcome _ _ _ _ c.args.press c.if-output-lt-OUTPUT.false known_of c.run_some.ensures
-
-pub run_many-requires : goal.run_many-requires
-run_many-requires c =
-    let known_of : press_known c.args.press ≡ true = sym c.press_known.ensures ∙ c.if-not-press_known.false in
-    record {
-      output_bytes_in_bounds = c.if-output-lt-OUTPUT.false;
-      press_value = known_of;
-    }
-
-pub returns : goal.returns
-returns c =
-    let known_of : press_known c.args.press ≡ true = sym c.press_known.ensures ∙ c.if-not-press_known.false in
-    press_outcome _ _ _ _ c.args.press c.if-output-lt-OUTPUT.false known_of c.run_many.ensures
+pub returns-in-Err : goal.returns-in-Err
+returns-in-Err c =
+    let parts = c.in-Some.ensures.cases in
+    let long : output_bytes ≤ length c.args.output.now = omega (arith, parts.2) in
+    let known : press_known c.args.press ≡ true = sym c.is_known.ensures ∙ c.if-not-is_known.false in
+    let told = told_refused _ _ _ c.in-Err.refusal _ _ c.in-Err.ensures c.print_refusal-in-Err.ensures in
+    press_outcome _ _ _ _ c.args.press long known (printed_whole c.in-Some.rest.now long parts.0 parts.2 (refusal_short _ _ c.in-Err.ensures.1) told (search rules))

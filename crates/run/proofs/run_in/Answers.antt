@@ -1,34 +1,18 @@
--- `run::run_in` meets its contract: what is read is refused, planned or grouped.
-use Rattle.std.proofs.Common.{ℕ, ◌≡◌, ◌≤◌, List, ◌++◌, length, take, drop, subst, ◌∙◌}
-use lib.Seq.{length-take-le, take_at}
+-- What is read is refused, planned or grouped.
+use Rattle.std.proofs.lemmas.Result.{err_from_is_err_and}
 use Rattle.model.specs.Table.{read_table}
-use Rattle.table.specs.Whole.{TableHeld, LinesOutcome}
+use Rattle.table.specs.Whole.{TableHeld}
 use Rattle.run.specs.declared.Press.TheVariants as press
-use Rattle.run.specs.Whole.{refusal_printed, plan_printed, printed_as}
+use Rattle.run.specs.Whole.{refusal_told, plan_printed, printed_as}
 use Rattle.run.proofs.run_in.Goals as goal
 
--- what was made in the cells of the first n stands there
-in_place : {n : ℕ} (made cells : List ℕ) → length made ≡ length (take n cells) → n ≤ length cells → take n (made ++ drop n cells) ≡ made
-in_place {n} made cells same inside = take_at made (drop n cells) _ (same ∙ length-take-le n cells inside)
-
-pub print_grouping-requires-clause-groups_made : goal.print_grouping-requires-clause-groups_made
-print_grouping-requires-clause-groups_made c =
-    let v = c.read_lines-reading.new in
-    let held : TableHeld (read_table c.args.input.now) v.parents v.tops v.bottoms v.marks v.windows v.tree c.in-Read.c.layouts c.in-Read.c.jobs =
-    subst (LinesOutcome (read_table c.args.input.now) v.parents v.tops v.bottoms v.marks v.windows v.tree) c.in-Read.is c.read_lines-reading.ensures in
-    let lent = in_place c.make_groups-grouped.new.tops v.tops c.make_groups-grouped.auto.tops held.holds.tops_hold in
-    (_, rw (← lent) at c.make_groups-grouped.ensures)
-
-pub returns-in-Refused : goal.returns-in-Refused
-returns-in-Refused c =
-    let v = c.read_lines-reading.new in
-    refusal_printed c.args.press _ _ _ _ _
-    (subst (LinesOutcome (read_table c.args.input.now) v.parents v.tops v.bottoms v.marks v.windows v.tree) c.in-Refused.is c.read_lines-reading.ensures)
-    c.print_refusal.ensures
+pub returns-in_err-counts : goal.returns-in_err-counts
+returns-in_err-counts c =
+    let same = err_from_is_err_and c.from_residual.result c.from_residual.ensures.1 in
+    rw (same.1, same.2) (refusal_told c.args.press.press _ _ _ c.in_err-counts.ensures)
 
 pub returns-in-TwoLanes : goal.returns-in-TwoLanes
 returns-in-TwoLanes c =
-    let v = c.read_lines-reading.new in
-    let held : TableHeld (read_table c.args.input.now) v.parents v.tops v.bottoms v.marks v.windows v.tree c.in-Read.c.layouts c.in-Read.c.jobs =
-    subst (LinesOutcome (read_table c.args.input.now) v.parents v.tops v.bottoms v.marks v.windows v.tree) c.in-Read.is c.read_lines-reading.ensures in
-    rw c.in-TwoLanes.is (printed_as press.TwoLanes _ _ _ _ _ _ _ _ _ _ _ _ held (plan_printed _ _ _ _ c.print_table.ensures))
+    let v = c.read_into.new in
+    let held : TableHeld (read_table c.args.input.now) v.parents v.tops v.bottoms v.marks v.windows v.tree c.in_ok-counts.counts.layouts c.in_ok-counts.counts.jobs = c.in_ok-counts.ensures in
+    rw c.in-TwoLanes.is (printed_as press.TwoLanes _ _ _ _ _ _ _ _ _ _ _ _ held (plan_printed _ _ _ _ (rw (c.from-jobs.ensures, c.from.ensures) at c.print_table.ensures.printed)))

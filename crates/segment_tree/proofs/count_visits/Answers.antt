@@ -7,9 +7,6 @@ use Rattle.segment_tree.proofs.count_visits.Goals as goal
 pub levels_inside-requires : goal.levels_inside-requires
 levels_inside-requires c = (visits_counted _ _ _ c.requires).right_zeros
 
-pub levels_apart-requires : goal.levels_apart-requires
-levels_apart-requires c = c.requires.some
-
 -- both counts are of fewer levels than a number has digits
 pub overflow_add-inside : goal.overflow_add-inside
 overflow_add-inside c =

@@ -6,7 +6,7 @@ pub loop-node-init : goal.loop-node-init
 loop-node-init c = inserting_slot _ _ _ _ _ c.requires
 
 pub loop-node-preserved : goal.loop-node-preserved
-loop-node-preserved c = inserting_step _ _ _ _ _ _ _ c.loop-node-test.true c.smaller.ensures c.loop-node.invariant
+loop-node-preserved c = inserting_step _ _ _ _ _ _ _ c.loop-node-test.true c.min.ensures c.loop-node.invariant
 
 pub returns : goal.returns
 returns c = inserting_done _ _ _ _ _ _ _ c.loop-node-test.false c.requires c.loop-node.invariant

@@ -6,10 +6,4 @@ pub loop-left-init : goal.loop-left-init
 loop-left-init c = narrowed_first _ _ _ _ _ c.requires.from_kept c.requires.order c.requires.within
 
 pub loop-left-preserved : goal.loop-left-preserved
-loop-left-preserved c = rw (c.smaller-least.ensures, c.smaller.ensures) (narrowed_parents _ _ _ c.requires.tree _ _ _ _ _ c.if-shape-left.true c.loop-left-test.true c.loop-left.invariant)
-
-pub returns-else-shape-left : goal.returns-else-shape-left
-returns-else-shape-left c = c.loop-left.invariant
-
-pub returns-after-loop-left : goal.returns-after-loop-left
-returns-after-loop-left c = c.loop-left.invariant
+loop-left-preserved c = rw (c.min-least.ensures, c.min.ensures) (narrowed_parents _ _ _ c.requires.tree _ _ _ _ _ c.if-shape-left.true c.loop-left-test.true c.loop-left.invariant)

@@ -1,12 +1,9 @@
 -- On the way up each inner node is right but the parent of the node at hand.
-use Rattle.sweep_laws.specs.Nodes.{removing_slot, removing_step, removing_done}
+use Rattle.sweep_laws.specs.Nodes.{removing_step, removing_done}
 use Rattle.segment_tree.proofs.remove.Goals as goal
 
-pub loop-node-init : goal.loop-node-init
-loop-node-init c = removing_slot _ _ _ _ c.requires.segment_tree c.requires.slot_lt_width
-
 pub loop-node-preserved : goal.loop-node-preserved
-loop-node-preserved c = removing_step _ _ _ _ _ _ _ _ c.loop-node-test.true c.sibling.ensures c.smaller-least.ensures c.loop-node.invariant
+loop-node-preserved c = removing_step _ _ _ _ _ _ _ _ c.loop-node-test.true c.sibling.ensures c.min-least.ensures c.loop-node.invariant
 
 pub returns : goal.returns
 returns c = removing_done _ _ _ _ c.requires.segment_tree c.requires.slot_lt_width _ _ _ c.loop-node-test.false c.loop-node.invariant

@@ -1,12 +1,7 @@
--- `settle_layouts::copy_out` meets its contract. The loop's invariant: the cells passed are copied.
-use Rattle.settle_layouts.proofs.Copies.{copied_none, copied_more, copied_all}
+-- `settle_layouts::copy_out` meets its contract: the first cells of the column hold what f says there.
+use Rattle.std.proofs.Common.{ap, List, ℕ, ◌++◌, drop, ◌∙◌, arith}
+use Rattle.settle_layouts.proofs.Outcome.{column}
 use Rattle.settle_layouts.proofs.copy_out.Goals as goal
 
-pub loop-x-init : goal.loop-x-init
-loop-x-init c = copied_none _ _ _
-
-pub loop-x-preserved : goal.loop-x-preserved
-loop-x-preserved c = copied_more _ _ _ _ _ c.requires.count_in_bounds c.loop-x-test.true c.loop-x.invariant
-
 pub returns : goal.returns
-returns c = copied_all _ _ _ _ _ c.loop-x-test.false c.loop-x.invariant
+returns c = λ f holds. ap (λ (l : List ℕ). l ++ drop c.args.count c.args.results.now) (c.copy_from_slice.ensures.after ∙ column c.args.count f _ (omega arith) holds)

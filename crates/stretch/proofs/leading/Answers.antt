@@ -1,45 +1,24 @@
--- `leading` answers its definition: the position is at most the length, so what stands from it on is a part of the other list, and the agreement
--- with that part is asked of `agreement`.
-use Prim.Native.Nat.{ℕ, ◌≤◌}
-use mathlib.Core.Path.{ap, ◌∙◌}
-use native.Mathlib.Omega.{arith}
+-- `leading` answers its definition: the first number is read where there is one, and sought in the other list.
+use Rattle.std.proofs.Common.{arith, sym, ap, ◌∙◌}
 use borrow.Author.Rules.{part_to_end}
-use lib.ListN.{length, get_or, drop}
 use Rattle.model.specs.Stretch.{agreement}
-use Rattle.stretch.proofs.Laws.{leading_none, leading_from}
-use Rattle.laws.specs.Places.{index_le}
+use Rattle.stretch.proofs.Laws.{leading_none, leading_from, leading_absent, agreement_zipped}
 use Rattle.stretch.proofs.leading.Goals as goal
 
-pub returns-then-list-eq0 : goal.returns-then-list-eq0
-returns-then-list-eq0 c =
-    let args = c.args in
-    leading_none args.list.now args.other.now c.if-list-eq0.true
+pub returns-in_default : goal.returns-in_default
+returns-in_default c = leading_none c.args.list.now c.args.other.now (omega (arith, c.in_default.ensures.item))
 
-pub offset_bounds-other-from : goal.offset_bounds-other-from
-offset_bounds-other-from c =
-    -- the position is at most the length
-    let within : c.position_of-from.result ≤ length c.args.other.now = let args = c.args in
-    rw c.position_of-from.ensures (index_le (get_or args.list.now 0 0) args.other.now) in
-    omega (arith, within)
-
-pub slice_bounds-agreement-count : goal.slice_bounds-agreement-count
-slice_bounds-agreement-count c =
-    let within : c.position_of-from.result ≤ length c.args.other.now = let args = c.args in
-    rw c.position_of-from.ensures (index_le (get_or args.list.now 0 0) args.other.now) in
-    within
-
-pub slice_bounds-agreement-start : goal.slice_bounds-agreement-start
-slice_bounds-agreement-start c =
-    let within : c.position_of-from.result ≤ length c.args.other.now = let args = c.args in
-    rw c.position_of-from.ensures (index_le (get_or args.list.now 0 0) args.other.now) in
-    within
-
-pub returns : goal.returns
-returns c =
-    let args = c.args in
-    let list = args.list.now in
-    let other = args.other.now in
+pub returns-in-Some-position_of : goal.returns-in-Some-position_of
+returns-in-Some-position_of c =
+    let list = c.args.list.now in
+    let other = c.args.other.now in
+    let head = c.in-Some.ensures.item in
     c.agreement.ensures
-    ∙ ap (agreement list) (part_to_end other c.position_of-from.result)
-    ∙ ap (λ (n : ℕ). agreement list (drop n other)) c.position_of-from.ensures
-    ∙ leading_from list other c.if-list-eq0.false
+    ∙ agreement_zipped _ _
+    ∙ ap (agreement list) (part_to_end other c.in-Some-position_of.from)
+    ∙ leading_from list other _ _ head.3.0 (head.3.1 0) (sym c.in-Some-position_of.ensures)
+
+pub returns-in-None : goal.returns-in-None
+returns-in-None c =
+    let head = c.in-Some.ensures.item in
+    leading_absent c.args.list.now c.args.other.now _ head.3.0 (head.3.1 0) (sym c.in-None.ensures)

@@ -5,17 +5,17 @@ use Rattle.table.proofs.answer.Goals as goal
 
 pub line_of_job-requires : goal.line_of_job-requires
 line_of_job-requires c =
-    let own = c.requires _ _ c.in-Wrong.is in
+    let own = c.requires _ c.in-Err.is in
     record { job_nonzero = own.0; job_bound = own.1 }
 
-pub returns-in-Wrong : goal.returns-in-Wrong
+pub returns-in-Err : goal.returns-in-Err
 unfolding unless_refused on_its_line
-returns-in-Wrong c = λ tb n m. rw (c.in-Wrong.is, c.line_of_job.ensures) refl
+returns-in-Err c = λ tb n m. rw (c.in-Err.is, c.line_of_job.ensures) refl
 
-pub returns-in-Line : goal.returns-in-Line
+pub returns-in-Some : goal.returns-in-Some
 unfolding unless_refused on_its_line
-returns-in-Line c = λ tb n m. rw (c.in-Right.is, c.in-Line.is) refl
+returns-in-Some c = λ tb n m. rw (c.in_default.is, c.in-Some.is) refl
 
-pub returns-in-Nothing : goal.returns-in-Nothing
+pub returns-in-None : goal.returns-in-None
 unfolding unless_refused on_its_line
-returns-in-Nothing c = λ tb n m. rw (c.in-Right.is, c.in-Nothing.is) (refl, sym n, sym m)
+returns-in-None c = λ tb n m. rw (c.in_default.is, c.in-None.is) (refl, sym n, sym m)

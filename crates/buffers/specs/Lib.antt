@@ -1,0 +1,2 @@
+-- What is promised of a table's lent buffers.
+pub mod Lent

@@ -1,6 +1,0 @@
--- `reading::holds_all_jobs` meets its contract. It is proved by itself too; here an edit shows which fact it breaks.
-use mathlib.Core.Path.{refl}
-use Rattle.reading.proofs.holds_all_jobs.Goals as goal
-
-pub returns : goal.returns
-returns c = refl
