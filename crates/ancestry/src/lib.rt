@@ -59,7 +59,7 @@ fn set_row(minima: &mut [u16], at: usize, stride: usize, half: usize)
 }
 
 // The minima of a tree, in cells that hold FFFF: row after row, as long as a minimum is of fewer leaves than a row has cells.
-fn set_minima(parents: &[u16], tree: &SettledTree, minima: &mut [u16])
+pub fn set_minima(parents: &[u16], tree: &SettledTree, minima: &mut [u16])
     requires spanned { Spanned parents.now tree.now }
     requires roomy { Roomy parents.now minima.old }
     requires minima_value { minima.old ≡ replicate (length minima.old) FFFF }

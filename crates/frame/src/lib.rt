@@ -38,8 +38,8 @@ fn digit_byte(digit: u8) -> u8
 // so tests would cost more than the table.
 #[derive(Drop)]
 pub struct DigitTable {
-    counts: [u32; 256],
-    ghost right: { DigitValues counts },
+    pub counts: [u32; 256],
+    pub ghost right: { DigitValues counts },
 }
 
 impl DigitTable {

@@ -9,7 +9,7 @@ ghost use Rattle.group_sweep.specs.Grouped.{Groupable, GroupSwept, GroupAsking, 
 
 use model::{LaneCount, Rank};
 use schedule::{NODES, STARTS, TO};
-use segment_tree::Candidates;
+use segment_tree::{Candidates, Shape};
 use sweep::{Partition, Reached};
 
 // A place that asks: the places that can wait in its span, and where that ends.
@@ -109,10 +109,9 @@ pub fn group_sweep(
     requires { Groupable count lanes.0 starts.now gaps.now members.old work.old }
     ensures { GroupSwept count lanes.0 starts.now work.old result members.new work.new }
 {
-    let shape = segment_tree::shape_for(count, sweep::longest_shelf(starts));
+    let shape = Shape::for_places(count, sweep::longest_shelf(starts));
     let partition = Partition { count, shape };
-    let start = NODES * count;
-    segment_tree::clear(&mut work[start..], shape);
+    shape.clear(&mut work[NODES * count..]);
     let mut progress = Progress {
         reached: Reached {
             next: 0,

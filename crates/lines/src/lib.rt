@@ -9,10 +9,11 @@ use model::{JobNumber, LayoutNumber, Totals};
 static DIGITS: [u8; 16] = *b"0123456789ABCDEF";
 
 // An output, and how many of its bytes are written: each method appends to them.
+#[derive(Drop)]
 pub struct Writer<'a> {
-    out: &'a mut [u8],
-    at: usize,
-    ghost within: { at ≤ length out.now },
+    pub out: &'a mut [u8],
+    pub at: usize,
+    pub ghost within: { at ≤ length out.now },
 }
 
 impl<'a> Writer<'a> {

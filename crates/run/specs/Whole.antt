@@ -81,6 +81,12 @@ pub told_refused : (bytes output output₁ : List ℕ) (r : Refusal) (n : ℕ) (
 told_refused bytes output output₁ r n output₂ t p = rw (t.1, ← t.0) p
 
 -- what the reader turns away is printed for every press
+pub refusal_printed : (x : Press) (t : Reading) (output : List ℕ) (r : Refusal) (n : ℕ) (output' : List ℕ) → t ≡ stopped (reason_number r.reason) r.place → Printed (refusal_bytes (reason_number r.reason) r.place) output n output' → Printed (press_bytes x t) output n output'
+unfolding reading_bytes group_reading_bytes
+refusal_printed press.TwoLanes t output r n output' e p = rw e p
+refusal_printed (press.FullPasses lanes) t output r n output' e p = rw e p
+
+-- and told as one
 pub refusal_told : (x : Press) (t : Reading) (output : List ℕ) (r : Refusal) → t ≡ stopped (reason_number r.reason) r.place → Told (press_bytes x t) output output (Err r)
 unfolding reading_bytes group_reading_bytes
 refusal_told press.TwoLanes t output r e = (refl, rw e refl)

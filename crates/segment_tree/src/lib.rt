@@ -25,26 +25,6 @@ pub struct Shape {
     pub width: usize,
 }
 
-// Where a shelf begins in the row of slots, and how many slots it has.
-#[derive(Clone, Copy)]
-pub struct Shelf {
-    pub base: usize,
-    pub size: usize,
-}
-
-impl Shelf {
-    // The shelf of the slots from `begin` up to `end`.
-    pub fn between(begin: u16, end: u16) -> Shelf
-        requires { begin ≤ end }
-        ensures { (result.base ≡ begin) × (result.size ≡ end - begin) }
-    {
-        Shelf {
-            base: usize::from(begin),
-            size: usize::from(end - begin),
-        }
-    }
-}
-
 // How many nodes the uppermost level that is kept has, at most, where a shelf may take the whole row: a compiler compares many side by side at once, so that a search
 // goes along all of them in a few dozen steps, and a tree with no more slots needs no other nodes.
 const KEPT: usize = 1024;
@@ -64,99 +44,11 @@ fn kept_for(width: usize, longest: usize) -> usize
     kept
 }
 
-// The shape for so many places, of which the longest shelf has `longest`: as wide as the smallest power of two that holds them.
-pub fn shape_for(count: usize, longest: usize) -> Shape
-    requires { count ≤ job_limit }
-    ensures { ShapeFor count result.kept result.width }
-{
-    let mut width = 1;
-    while width < count {
-        width *= 2;
-    }
-    let kept = kept_for(width, longest);
-    Shape { kept, width }
-}
-
-// Empties every slot.
-pub fn clear(nodes: &mut [u16], shape: Shape)
-    requires { Clearable shape.kept shape.width nodes.old }
-    ensures { Cleared shape.kept shape.width nodes.old nodes.new }
-{
-    nodes[..2 * shape.width].fill(model::ABSENT);
-}
-
-// Puts a place into an empty slot: each node above it takes the smaller. It has no early end, so that no step waits for the one before.
-pub fn insert(nodes: &mut [u16], shape: Shape, slot: usize, place: Rank)
-    requires { Insertable shape.kept shape.width nodes.old slot place.0 }
-    ensures { Inserted shape.kept shape.width nodes.old slot place.0 nodes.new }
-{
-    let leaf = shape.width + slot;
-    nodes[leaf] = place.0;
-    let mut node = leaf / 2;
-    while shape.kept <= node {
-        nodes[node] = nodes[node].min(place.0);
-        node /= 2;
-    }
-}
-
 // The other node under the same parent.
 fn sibling(node: usize) -> usize
     ensures { Siblings result node }
 {
     node ^ 1
-}
-
-// Empties a slot: each node above it takes the smaller of its two children again.
-pub fn remove(nodes: &mut [u16], shape: Shape, slot: usize)
-    requires segment_tree { SegmentTree shape.kept shape.width nodes.old }
-    requires slot_lt_width { slot < shape.width }
-    ensures { Removed shape.kept shape.width nodes.old slot nodes.new }
-{
-    let mut node = shape.width + slot;
-    let mut least = model::ABSENT;
-    nodes[node] = least;
-    while 2 * shape.kept <= node {
-        least = least.min(nodes[sibling(node)]);
-        node /= 2;
-        nodes[node] = least;
-    }
-}
-
-// How many levels the tree of a shelf of so many slots has, below its topmost node: as many as its last slot has binary digits.
-fn levels_of(size: usize) -> usize
-    requires { 1 ≤ size }
-    ensures { result ≡ levels size }
-{
-    64 - usize::leading_zeros(size - 1) as usize
-}
-
-// How many levels have a node with x strictly inside: x is a border of a node as long as its trailing zeros last.
-fn levels_inside(levels: usize, x: usize) -> usize
-    requires { count_trailing_zeros 64 x ≤ levels }
-    ensures { result ≡ levels_inside 0 levels x }
-{
-    levels - usize::trailing_zeros(x) as usize
-}
-
-// How many levels have a node with `from` strictly inside and `to` in another one: those past the trailing zeros of `from`, up to the highest digit in which the
-// two differ, as above it both lie in one node.
-fn levels_apart(levels: usize, from: usize, to: usize) -> usize
-    requires { from < to }
-    ensures { result ≡ levels_apart levels from to }
-{
-    let digit = 63 - usize::leading_zeros(from ^ to) as usize;
-    let zeros = levels.min(usize::trailing_zeros(from) as usize);
-    digit.max(zeros) - zeros
-}
-
-// How many nodes document 01 counts for a lookup of the slots from `from` up to `to`, of which there are some: the topmost, and two for each node with an end strictly
-// inside.
-fn count_visits(levels: usize, from: usize, to: usize) -> u32
-    requires { Countable levels from to }
-    ensures { result ≡ visits levels from to }
-{
-    let inside = levels_inside(levels, to) + levels_apart(levels, from, to);
-    (1 + 2 * inside) as u32
 }
 
 // Part of a search: what is left of a span, with the smallest node taken in so far.
@@ -165,23 +57,6 @@ struct Span {
     left: usize,
     right: usize,
     least: u16,
-}
-
-// Narrows a span of nodes, level by level up to the uppermost that is kept: the first and the last node are taken in, and what is left is the span of
-// the parents that lie wholly inside.
-fn narrow(nodes: &[u16], shape: Shape, from: usize, to: usize) -> Span
-    requires { Narrowable shape.kept shape.width nodes.now from to }
-    ensures { Narrowed shape.kept shape.width nodes.now from to result.left result.right result.least }
-{
-    let mut left = from;
-    let mut right = to;
-    let mut least = model::ABSENT;
-    while left < right && 2 * shape.kept <= left {
-        least = least.min(nodes[left].min(nodes[right - 1]));
-        left = (left + 1) / 2;
-        right /= 2;
-    }
-    Span { left, right, least }
 }
 
 // The smallest of the nodes from `left` up to `right`, which stand on one level, and of `least`.
@@ -195,17 +70,6 @@ fn level_minimum(nodes: &[u16], left: usize, right: usize, least: u16) -> u16
         .fold(least, |least, &node| least.min(node))
 }
 
-// The smallest place in the slots from `from` up to `to`, FFFF for none, from the slots up.
-fn range_minimum(nodes: &[u16], shape: Shape, from: usize, to: usize) -> u16
-    requires segment_tree { SegmentTree shape.kept shape.width nodes.now }
-    requires from_le_to { from ≤ to }
-    requires to_le_width { to ≤ shape.width }
-    ensures { result ≡ smallest (entries_in shape.width nodes.now) from to }
-{
-    let span = narrow(nodes, shape, shape.width + from, shape.width + to);
-    level_minimum(nodes, span.left, span.right, span.least)
-}
-
 // The places that can wait in a span: none before the first, and none after the last.
 #[derive(Clone, Copy)]
 pub struct Candidates {
@@ -213,42 +77,180 @@ pub struct Candidates {
     pub last: Rank,
 }
 
-// The smallest place in the slots from `from` up to `to`. Where the first that can wait there does, in `slot`, or comes after the last, there is nothing to
-// search for; another slot than its own costs a search and no more.
-pub fn lookup(
-    nodes: &[u16],
-    shape: Shape,
-    from: usize,
-    to: usize,
-    slot: usize,
-    candidates: Candidates,
-) -> Option<Rank>
-    requires { Searchable shape.kept shape.width nodes.now from to candidates.first.0 candidates.last.0 }
-    ensures { result ≡ place_in (smallest (entries_in shape.width nodes.now) from to) }
-{
-    if to <= from {
-        return None;
+impl Shape {
+    // The shape for so many places, of which the longest shelf has `longest`: as wide as the smallest power of two that holds them.
+    pub fn for_places(count: usize, longest: usize) -> Shape
+        requires { count ≤ job_limit }
+        ensures { ShapeFor count result.kept result.width }
+    {
+        let mut width = 1;
+        while width < count {
+            width *= 2;
+        }
+        let kept = kept_for(width, longest);
+        Shape { kept, width }
     }
-    let first = candidates.first;
-    let last = candidates.last;
-    if last < first {
-        return None;
+
+    // Empties every slot.
+    pub fn clear(self, nodes: &mut [u16])
+        requires { Clearable self.kept self.width nodes.old }
+        ensures { Cleared self.kept self.width nodes.old nodes.new }
+    {
+        nodes[..2 * self.width].fill(model::ABSENT);
     }
-    if from <= slot && slot < to {
-        if first.0 == nodes[shape.width + slot] {
-            return Some(first);
+
+    // Puts a place into an empty slot: each node above it takes the smaller. It has no early end, so that no step waits for the one before.
+    pub fn insert(self, nodes: &mut [u16], slot: usize, place: Rank)
+        requires { Insertable self.kept self.width nodes.old slot place.0 }
+        ensures { Inserted self.kept self.width nodes.old slot place.0 nodes.new }
+    {
+        let leaf = self.width + slot;
+        nodes[leaf] = place.0;
+        let mut node = leaf / 2;
+        while self.kept <= node {
+            nodes[node] = nodes[node].min(place.0);
+            node /= 2;
         }
     }
-    Rank::in_cell(range_minimum(nodes, shape, from, to))
+
+    // Empties a slot: each node above it takes the smaller of its two children again.
+    pub fn remove(self, nodes: &mut [u16], slot: usize)
+        requires segment_tree { SegmentTree self.kept self.width nodes.old }
+        requires slot_lt_width { slot < self.width }
+        ensures { Removed self.kept self.width nodes.old slot nodes.new }
+    {
+        let mut node = self.width + slot;
+        let mut least = model::ABSENT;
+        nodes[node] = least;
+        while 2 * self.kept <= node {
+            least = least.min(nodes[sibling(node)]);
+            node /= 2;
+            nodes[node] = least;
+        }
+    }
+
+    // Narrows a span of nodes, level by level up to the uppermost that is kept: the first and the last node are taken in, and what is left is the span of
+    // the parents that lie wholly inside.
+    fn narrow(self, nodes: &[u16], from: usize, to: usize) -> Span
+        requires { Narrowable self.kept self.width nodes.now from to }
+        ensures { Narrowed self.kept self.width nodes.now from to result.left result.right result.least }
+    {
+        let mut left = from;
+        let mut right = to;
+        let mut least = model::ABSENT;
+        while left < right && 2 * self.kept <= left {
+            least = least.min(nodes[left].min(nodes[right - 1]));
+            left = (left + 1) / 2;
+            right /= 2;
+        }
+        Span { left, right, least }
+    }
+
+    // The smallest place in the slots from `from` up to `to`, FFFF for none, from the slots up.
+    fn range_minimum(self, nodes: &[u16], from: usize, to: usize) -> u16
+        requires segment_tree { SegmentTree self.kept self.width nodes.now }
+        requires from_le_to { from ≤ to }
+        requires to_le_width { to ≤ self.width }
+        ensures { result ≡ smallest (entries_in self.width nodes.now) from to }
+    {
+        let span = self.narrow(nodes, self.width + from, self.width + to);
+        level_minimum(nodes, span.left, span.right, span.least)
+    }
+
+    // The smallest place in the slots from `from` up to `to`. Where the first that can wait there does, in `slot`, or comes after the last, there is nothing to
+    // search for; another slot than its own costs a search and no more.
+    pub fn lookup(
+        self,
+        nodes: &[u16],
+        from: usize,
+        to: usize,
+        slot: usize,
+        candidates: Candidates,
+    ) -> Option<Rank>
+        requires { Searchable self.kept self.width nodes.now from to candidates.first.0 candidates.last.0 }
+        ensures { result ≡ place_in (smallest (entries_in self.width nodes.now) from to) }
+    {
+        if to <= from {
+            return None;
+        }
+        let first = candidates.first;
+        let last = candidates.last;
+        if last < first {
+            return None;
+        }
+        if from <= slot && slot < to {
+            if first.0 == nodes[self.width + slot] {
+                return Some(first);
+            }
+        }
+        Rank::in_cell(self.range_minimum(nodes, from, to))
+    }
 }
 
-// How many nodes document 01 counts for a lookup of the slots from `from` up to `to`, which are a shelf's.
-pub fn lookup_visits(shelf: Shelf, from: usize, to: usize) -> u32
-    requires { ShelfSpan shelf.base shelf.size from to }
-    ensures { result ≡ visits (levels shelf.size) (from - shelf.base) (to - shelf.base) }
+// How many levels have a node with x strictly inside: x is a border of a node as long as its trailing zeros last.
+fn levels_inside(levels: u32, x: usize) -> u32
+    requires { count_trailing_zeros 64 x ≤ levels }
+    ensures { result ≡ levels_inside 0 levels x }
 {
-    if from < to {
-        return count_visits(levels_of(shelf.size), from - shelf.base, to - shelf.base);
+    levels - x.trailing_zeros()
+}
+
+// How many levels have a node with `from` strictly inside and `to` in another one: those past the trailing zeros of `from`, up to the highest digit in which the
+// two differ, as above it both lie in one node.
+fn levels_apart(levels: u32, from: usize, to: usize) -> u32
+    requires { from < to }
+    ensures { result ≡ levels_apart levels from to }
+{
+    let digit = 63 - (from ^ to).leading_zeros();
+    let zeros = levels.min(from.trailing_zeros());
+    digit.max(zeros) - zeros
+}
+
+// How many nodes document 01 counts for a lookup of the slots from `from` up to `to`, of which there are some: the topmost, and two for each node with an end strictly
+// inside.
+fn count_visits(levels: u32, from: usize, to: usize) -> u32
+    requires { Countable levels from to }
+    ensures { result ≡ visits levels from to }
+{
+    let inside = levels_inside(levels, to) + levels_apart(levels, from, to);
+    1 + 2 * inside
+}
+
+// Where a shelf begins in the row of slots, and how many slots it has.
+#[derive(Clone, Copy)]
+pub struct Shelf {
+    pub base: usize,
+    pub size: usize,
+}
+
+impl Shelf {
+    // The shelf of the slots from `begin` up to `end`.
+    pub fn between(begin: u16, end: u16) -> Shelf
+        requires { begin ≤ end }
+        ensures { (result.base ≡ begin) × (result.size ≡ end - begin) }
+    {
+        Shelf {
+            base: usize::from(begin),
+            size: usize::from(end - begin),
+        }
     }
-    1
+
+    // How many levels its tree has, below the topmost node: as many as its last slot has binary digits.
+    fn levels(self) -> u32
+        requires { 1 ≤ self.size }
+        ensures { result ≡ levels self.size }
+    {
+        64 - (self.size - 1).leading_zeros()
+    }
+
+    // How many nodes document 01 counts for a lookup of the slots from `from` up to `to`, which are its own.
+    pub fn lookup_visits(self, from: usize, to: usize) -> u32
+        requires { ShelfSpan self.base self.size from to }
+        ensures { result ≡ visits (levels self.size) (from - self.base) (to - self.base) }
+    {
+        if from < to {
+            return count_visits(self.levels(), from - self.base, to - self.base);
+        }
+        1
+    }
 }

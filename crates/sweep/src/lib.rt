@@ -74,8 +74,8 @@ impl Partition {
         ensures { TreeChanged self.count self.shape.kept self.shape.width (insert_entry (get_or work.old (slot_part * self.count + place.0) 0) place.0 (entries_in self.shape.width (tree_in self.count work.old))) work.old work.new }
     {
         let slot = schedule::number_in::<SLOT>(work, self.count, place);
-        let start = NODES * self.count;
-        segment_tree::insert(&mut work[start..], self.shape, slot, place);
+        self.shape
+            .insert(&mut work[NODES * self.count..], slot, place);
     }
 
     // A place waits no longer.
@@ -84,8 +84,7 @@ impl Partition {
         ensures { TreeChanged self.count self.shape.kept self.shape.width (remove_entry (get_or work.old (slot_part * self.count + place.0) 0) (entries_in self.shape.width (tree_in self.count work.old))) work.old work.new }
     {
         let slot = schedule::number_in::<SLOT>(work, self.count, place);
-        let start = NODES * self.count;
-        segment_tree::remove(&mut work[start..], self.shape, slot);
+        self.shape.remove(&mut work[NODES * self.count..], slot);
     }
 
     // Inserts what is reached at the turn of a place, and answers what is reached then.
@@ -152,8 +151,8 @@ impl Partition {
         let from = schedule::number_in::<FROM>(work, self.count, place);
         // No slot where the first comes after the last place of all: then the lookup does not look at it.
         let slot = schedule::number_in::<SLOT>(work, self.count, candidates.first);
-        let start = NODES * self.count;
-        segment_tree::lookup(&work[start..], self.shape, from, to, slot, candidates)
+        self.shape
+            .lookup(&work[NODES * self.count..], from, to, slot, candidates)
     }
 
     // A place takes the mate that is found, if one is: it waits no longer and asks nobody any more.
@@ -185,7 +184,7 @@ impl Partition {
     {
         self.remove_place(work, place);
         let from = schedule::number_in::<FROM>(work, self.count, place);
-        let visits = segment_tree::lookup_visits(shelf, from, to);
+        let visits = shelf.lookup_visits(from, to);
         let last = candidates.last;
         let first = self.approach(work, place, candidates, to);
         let further = Candidates { first, last };
@@ -258,10 +257,9 @@ pub fn sweep(work: &mut [u16], count: usize, starts: &[u16; STARTS], gaps: &[u8]
     requires { Sweepable count starts.now gaps.now work.old }
     ensures { Swept count starts.now work.old result.pairs result.visits work.new }
 {
-    let shape = segment_tree::shape_for(count, longest_shelf(starts));
+    let shape = Shape::for_places(count, longest_shelf(starts));
     let partition = Partition { count, shape };
-    let start = NODES * count;
-    segment_tree::clear(&mut work[start..], shape);
+    shape.clear(&mut work[NODES * count..]);
     let mut progress = Progress {
         reached: Reached {
             next: 0,

@@ -4,17 +4,8 @@ use mathlib.Core.Path.{refl, sym, ap, ◌∙◌}
 use native.Mathlib.Omega.{arith}
 use Rattle.std.specs.Option.{is_some}
 use Rattle.schedule.specs.Places.{held_none, held_one}
-use Rattle.sweep_laws.specs.Steps.{near_place}
-use Rattle.group_sweep.specs.Steps.{few_groups, stepped_taken, stepped_alone, now_asking, stepped_full, stepped_short}
+use Rattle.group_sweep.specs.Steps.{stepped_taken, stepped_alone, now_asking, stepped_full, stepped_short}
 use Rattle.group_sweep.proofs.group_step.Goals as goal
-
-pub near_to-first-requires : goal.near_to-first-requires
-near_to-first-requires c =
-    let n = near_place _ _ _ c.requires.1.underway.sweeping.setting.places_are c.requires.1.shelves.near _ c.requires.1.inside in
-    record {
-      place_in_bounds = n.0;
-      place_bound = omega (arith, n.1, c.requires.1.underway.sweeping.setting.few);
-    }
 
 pub take_group-requires : goal.take_group-requires
 take_group-requires c =
@@ -27,9 +18,6 @@ returns-in_err-take_group c =
     let asks : 0 < c.number_in-to.result = omega (arith, c.if-to-gt0.true) in
     rw c.from_residual.ensures
     (stepped_short _ _ _ _ _ _ _ _ _ _ _ _ p _ _ _ c.insert_reached-reached.ensures _ c.number_in-to.ensures asks _ c.near_to-first.ensures _ _ _ c.take_group.auto.members c.take_group.ensures (ap is_some c.in_err-take_group.was))
-
-pub overflow_add-result : goal.overflow_add-result
-overflow_add-result c = omega (arith, few_groups _ _ _ _ _ _ _ _ _ _ _ _ c.requires.1)
 
 pub returns-then-to-gt0 : goal.returns-then-to-gt0
 returns-then-to-gt0 c =

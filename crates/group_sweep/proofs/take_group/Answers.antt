@@ -4,19 +4,13 @@ use mathlib.Core.Path.{refl, sym, ◌∙◌}
 use native.Mathlib.Omega.{arith}
 use lib.ListN.{length-set}
 use Rattle.schedule.specs.Places.{held_none, held_one}
-use Rattle.sweep_laws.specs.Asking.{asking_removable, turn_begins, turn_searchable, mate_takable, mate_taking}
+use Rattle.sweep_laws.specs.Asking.{turn_begins, turn_searchable, mate_takable, mate_taking}
 use Rattle.sweep_laws.specs.Steps.{near_place}
 use Rattle.group_sweep.specs.Taking.{at_inside, so_far_first, next_inside, so_far_more, group_full, group_short}
 use Rattle.group_sweep.proofs.take_group.Goals as goal
 
-pub remove_place-requires : goal.remove_place-requires
-remove_place-requires c = asking_removable _ _ _ _ _ _ _ _ _ _ _ _ c.requires.4.asking
-
 pub bounds-members-at : goal.bounds-members-at
 bounds-members-at c = let p = c.requires.4 in omega (arith, p.members_length, at_inside _ _ _ _ _ _ _ _ _ _ _ _ _ _ _ _ p)
-
-pub loop-taken-init : goal.loop-taken-init
-loop-taken-init c = let p = c.requires.4 in (omega (arith, p.least), rw length-set p.members_length, λ s next base size old before near f. f)
 
 -- what is taken so far, by any schedule that the place asks in
 pub find_mate-requires : goal.find_mate-requires
@@ -41,32 +35,6 @@ take_mate-requires-clause-takable c =
     let held = held_one _ _ (sym c.find_mate.ensures ∙ c.in_ok-mate.was) in
     rw held.0 (mate_takable _ _ _ _ _ _ _ _ _ _ _ _ f.turn _ refl)
 
-pub take_mate-requires-clause-is_place : goal.take_mate-requires-clause-is_place
-take_mate-requires-clause-is_place c =
-    let held = held_one _ _ (sym c.find_mate.ensures ∙ c.in_ok-mate.was) in
-    rw held.0 held.1
-
--- one is found, and there is room for it
-pub overflow_add-members : goal.overflow_add-members
-overflow_add-members c =
-    let p = c.requires in
-    let f = c.loop-taken.invariant.2 p.0 p.1 p.2 p.3 _ _ p.4.near (so_far_first _ _ _ _ _ _ _ _ _ _ _ _ _ _ _ _ p.4 _ c.remove_place.ensures.front (turn_begins _ _ _ _ _ _ _ _ _ _ _ _ p.4.asking _ c.remove_place.ensures)) in
-    let held = held_one _ _ (sym c.find_mate.ensures ∙ c.in_ok-mate.was) in
-    let took = rw held.0 at c.take_mate.ensures in
-    let t = mate_taking _ _ _ _ _ _ _ _ _ _ _ _ f.turn _ refl _ took in
-    let below : c.args.at + c.loop-taken.taken < c.args.partition.count = next_inside _ _ _ _ _ _ _ _ _ _ _ _ _ _ _ _ _ _ f (omega arith) _ _ t held.1 in
-    omega (arith, below, p.4.asking.sweeping.setting.few)
-
-pub offset_bounds-members-at-in-loop-taken : goal.offset_bounds-members-at-in-loop-taken
-offset_bounds-members-at-in-loop-taken c =
-    let p = c.requires in
-    let f = c.loop-taken.invariant.2 p.0 p.1 p.2 p.3 _ _ p.4.near (so_far_first _ _ _ _ _ _ _ _ _ _ _ _ _ _ _ _ p.4 _ c.remove_place.ensures.front (turn_begins _ _ _ _ _ _ _ _ _ _ _ _ p.4.asking _ c.remove_place.ensures)) in
-    let held = held_one _ _ (sym c.find_mate.ensures ∙ c.in_ok-mate.was) in
-    let took = rw held.0 at c.take_mate.ensures in
-    let t = mate_taking _ _ _ _ _ _ _ _ _ _ _ _ f.turn _ refl _ took in
-    let below : c.args.at + c.loop-taken.taken < c.args.partition.count = next_inside _ _ _ _ _ _ _ _ _ _ _ _ _ _ _ _ _ _ f (omega arith) _ _ t held.1 in
-    omega (arith, below, p.4.asking.sweeping.setting.few)
-
 pub bounds-members-at-in-loop-taken : goal.bounds-members-at-in-loop-taken
 bounds-members-at-in-loop-taken c =
     let p = c.requires in
@@ -77,19 +45,15 @@ bounds-members-at-in-loop-taken c =
     let below : c.args.at + c.loop-taken.taken < c.args.partition.count = next_inside _ _ _ _ _ _ _ _ _ _ _ _ _ _ _ _ _ _ f (omega arith) _ _ t held.1 in
     omega (arith, below, c.loop-taken.invariant.1)
 
-pub near_to-first-requires : goal.near_to-first-requires
-near_to-first-requires c =
+pub near_to-first-requires-clause-place_in_bounds : goal.near_to-first-requires-clause-place_in_bounds
+near_to-first-requires-clause-place_in_bounds c =
     let p = c.requires in
     let f = c.loop-taken.invariant.2 p.0 p.1 p.2 p.3 _ _ p.4.near (so_far_first _ _ _ _ _ _ _ _ _ _ _ _ _ _ _ _ p.4 _ c.remove_place.ensures.front (turn_begins _ _ _ _ _ _ _ _ _ _ _ _ p.4.asking _ c.remove_place.ensures)) in
     let held = held_one _ _ (sym c.find_mate.ensures ∙ c.in_ok-mate.was) in
     let took = rw held.0 at c.take_mate.ensures in
     let t = mate_taking _ _ _ _ _ _ _ _ _ _ _ _ f.turn _ refl _ took in
     let inside = rw (← held.0) at (t.one_found held.1).0.inside in
-    let n = near_place _ _ _ p.4.asking.sweeping.setting.places_are p.4.near _ inside in
-    record {
-      place_in_bounds = n.0;
-      place_bound = omega (arith, n.1, p.4.asking.sweeping.setting.few);
-    }
+    (near_place _ _ _ p.4.asking.sweeping.setting.places_are p.4.near _ inside).0
 
 pub loop-taken-preserved : goal.loop-taken-preserved
 loop-taken-preserved c =

@@ -1,23 +1,16 @@
 -- The place leaves the tree, and what it takes is its mate.
 use mathlib.Core.Path.{refl}
-use native.Mathlib.Omega.{arith}
 use lib.ListN.{get_or}
 use Prim.Native.Nat.{◌+◌, ◌*◌}
 use Rattle.std.proofs.Math.Decide.{ℕ_discrete}
 use Rattle.model.specs.Tree.{FFFF}
 use Rattle.schedule.specs.InWork.{from_part}
-use Rattle.schedule.specs.Places.{cell_back, held_known}
+use Rattle.schedule.specs.Places.{cell_back}
 use Rattle.sweep_laws.specs.SegmentTree.{entries_in, smallest}
 use Rattle.sweep_laws.specs.WorkCells.{tree_in}
-use Rattle.sweep_laws.specs.Asking.{asking_removable, turn_begins, turn_room, turn_span, turn_searchable, mate_takable, mate_taking}
+use Rattle.sweep_laws.specs.Asking.{turn_begins, turn_span, turn_searchable, mate_takable, mate_taking}
 use Rattle.sweep_laws.proofs.Chosen.{chosen_none, chosen_one}
 use Rattle.sweep.proofs.Partition.match_place.Goals as goal
-
-pub remove_place-requires : goal.remove_place-requires
-remove_place-requires c = asking_removable _ _ _ _ _ _ _ _ _ _ _ _ c.requires.2
-
-pub number_in-from-requires : goal.number_in-from-requires
-number_in-from-requires c = let p = c.requires.2 in omega (arith, p.inside, turn_room _ _ _ _ _ _ _ _ _ _ _ _ (turn_begins _ _ _ _ _ _ _ _ _ _ _ _ p _ c.remove_place.ensures))
 
 pub lookup_visits-visits-requires : goal.lookup_visits-visits-requires
 lookup_visits-visits-requires c = rw c.number_in-from.ensures (turn_span _ _ _ _ _ _ _ _ _ _ _ _ (turn_begins _ _ _ _ _ _ _ _ _ _ _ _ c.requires.2 _ c.remove_place.ensures))
@@ -25,20 +18,9 @@ lookup_visits-visits-requires c = rw c.number_in-from.ensures (turn_span _ _ _ _
 pub approach-first-requires : goal.approach-first-requires
 approach-first-requires c = turn_searchable _ _ _ _ _ _ _ _ _ _ _ _ (turn_begins _ _ _ _ _ _ _ _ _ _ _ _ c.requires.2 _ c.remove_place.ensures)
 
-pub find_mate-mate-requires : goal.find_mate-mate-requires
-find_mate-mate-requires c = c.approach-first.ensures
-
 pub take_mate-requires-clause-takable : goal.take_mate-requires-clause-takable
 take_mate-requires-clause-takable c =
     rw (c.find_mate-mate.ensures, cell_back) (mate_takable _ _ _ _ _ _ _ _ _ _ _ _ (turn_begins _ _ _ _ _ _ _ _ _ _ _ _ c.requires.2 _ c.remove_place.ensures) _ refl)
-
-pub take_mate-requires-clause-is_place : goal.take_mate-requires-clause-is_place
-take_mate-requires-clause-is_place c = rw c.find_mate-mate.ensures (held_known _)
-
-pub set_mate-requires : goal.set_mate-requires
-set_mate-requires c =
-    let p = c.requires.2 in
-    omega (arith, p.inside, turn_room _ _ _ _ _ _ _ _ _ _ _ _ (turn_begins _ _ _ _ _ _ _ _ _ _ _ _ p _ c.remove_place.ensures), c.take_mate.auto.work)
 
 pub returns-clause-chosen : goal.returns-clause-chosen
 returns-clause-chosen c =
@@ -53,6 +35,3 @@ returns-clause-chosen c =
       | yes none ↦ chosen_none _ _ _ _ _ _ _ _ _ _ _ _ _ c.remove_place.ensures.front t _ _ g _ counted none
       | no some ↦ chosen_one _ _ _ _ _ _ _ _ _ _ _ _ _ c.remove_place.ensures.front t _ _ g _ counted some
     ])
-
-pub returns-clause-mate_is_a_place : goal.returns-clause-mate_is_a_place
-returns-clause-mate_is_a_place c = rw c.find_mate-mate.ensures (held_known _)

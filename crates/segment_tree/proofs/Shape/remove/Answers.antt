@@ -1,6 +1,6 @@
 -- On the way up each inner node is right but the parent of the node at hand.
 use Rattle.sweep_laws.specs.Nodes.{removing_step, removing_done}
-use Rattle.segment_tree.proofs.remove.Goals as goal
+use Rattle.segment_tree.proofs.Shape.remove.Goals as goal
 
 pub loop-node-preserved : goal.loop-node-preserved
 loop-node-preserved c = removing_step _ _ _ _ _ _ _ _ c.loop-node-test.true c.sibling.ensures c.min-least.ensures c.loop-node.invariant

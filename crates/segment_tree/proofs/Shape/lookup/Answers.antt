@@ -7,7 +7,7 @@ use Rattle.std.proofs.lemmas.Grind.{common_steps}
 use Rattle.model.specs.Cells.{place_in}
 use Rattle.schedule.specs.Places.{none_held, one_held}
 use Rattle.sweep_laws.specs.EntryLaws.{smallest_none, smallest_empty, smallest_first}
-use Rattle.segment_tree.proofs.lookup.Goals as goal
+use Rattle.segment_tree.proofs.Shape.lookup.Goals as goal
 
 pub returns-then-to-from : goal.returns-then-to-from
 returns-then-to-from c = sym (none_held _ (smallest_empty _ _ _ c.if-to-from.true))

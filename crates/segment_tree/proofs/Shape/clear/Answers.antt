@@ -3,7 +3,7 @@ use Rattle.sweep_laws.specs.Nodes.{cleared_all}
 use Prim.Native.Nat.{◌*◌}
 use borrow.Author.Rules.{rules}
 use native.Mathlib.Omega.{arith}
-use Rattle.segment_tree.proofs.clear.Goals as goal
+use Rattle.segment_tree.proofs.Shape.clear.Goals as goal
 
 pub returns : goal.returns
-returns c = cleared_all _ _ _ c.requires (2 * c.args.shape.width) _ (omega arith) (record { within = omega arith; filled = search rules })
+returns c = cleared_all _ _ _ c.requires (2 * c.args.self.width) _ (omega arith) (record { within = omega arith; filled = search rules })

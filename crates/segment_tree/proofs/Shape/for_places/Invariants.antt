@@ -1,7 +1,7 @@
 -- The width is doubled until it holds all places, and no lesser power of two does.
 use Prim.Native.Nat.{◌-◌}
 use Rattle.sweep_laws.specs.Levels.{Doubled}
-use Rattle.segment_tree.proofs.shape_for.Given as goal
+use Rattle.segment_tree.proofs.Shape.for_places.Given as goal
 
 abbrev pub invariant-loop-width : goal.invariant-loop-width
 invariant-loop-width l = Doubled l.count l.width

@@ -1,6 +1,6 @@
 -- On the way up every inner node is right but the one at hand, which is right once it takes the place.
 use Rattle.sweep_laws.specs.Nodes.{inserting_slot, inserting_step, inserting_done}
-use Rattle.segment_tree.proofs.insert.Goals as goal
+use Rattle.segment_tree.proofs.Shape.insert.Goals as goal
 
 pub loop-node-init : goal.loop-node-init
 loop-node-init c = inserting_slot _ _ _ _ _ c.requires
