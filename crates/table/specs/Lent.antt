@@ -1,6 +1,5 @@
 -- What is asked and promised of the lent buffers that a table is read into.
 use Rattle.std.specs.Prelude.{ℕ, ◌≡◌, true, false, List, length, Result, is_err}
-use Rattle.std.proofs.Math.Nat.{sub-zero}
 use Rattle.model.specs.Verdict.{Verdict, accepted}
 use Rattle.model.specs.Table.{Reading, buffers_verdict}
 use Rattle.model.specs.Outcomes.{ReadAs}
@@ -11,7 +10,7 @@ use Rattle.buffers.specs.declared.TableBuffers.{TableBuffers}
 use Rattle.std.specs.Borrow.{MutBor}
 use Rattle.reading.specs.Steps.{Unused, Spare}
 use Rattle.reading.specs.Lent.{ReadyFor}
-use Rattle.table.specs.Whole.{LinesOutcome, BuffersLong, Kept, cleared_ready, all_read, refused_clear}
+use Rattle.table.specs.Whole.{LinesOutcome, BuffersLong, Kept, filled_unused, cleared_ready, all_read, refused_clear}
 use Rattle.settle.specs.declared.SettledTree.{SettledTree}
 
 -- they are as long as asked for
@@ -32,7 +31,7 @@ TableInto t b r b' = ReadAs accepted t b.parents.now b.tops.now b.bottoms.now b.
 
 -- cells that all hold v are not used
 all_unused : (v : ℕ) (c : MutBor (List ℕ)) → AllHold v c → Unused v 0 c.now
-all_unused v c h = rw (sub-zero (length c.now)) h
+all_unused v c h = filled_unused v c.now c.now h
 
 clear_spare : (b : TableBuffers) → Cleared b → Spare b.parents.now b.tops.now b.bottoms.now b.marks.now b.windows.now 0 0
 clear_spare b c =

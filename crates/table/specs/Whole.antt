@@ -5,6 +5,8 @@ use Rattle.std.proofs.Common.{sym, ap, ◌∙◌, arith, length-take, take-appen
 use mathlib.Core.List.Memᴰ.{head as here}
 use mathlib.Core.List.Memᴰ.{tail as there}
 use mathlib.Core.List.{List, [], ◌∷◌, ◌++◌, map, foldr, Memᴰ as Mem}
+use Rattle.std.proofs.Math.Nat.{sub-zero}
+use Rattle.std.proofs.lemmas.List.{length-replicate}
 use Rattle.std.proofs.Math.Seq.{length-take-le}
 use Rattle.model.specs.Verdict.{Verdict, accepted, refused, refuse_if, ◌then◌, padded}
 use Rattle.model.specs.Lists.{numbers}
@@ -171,6 +173,12 @@ used_padded : (v n : ℕ) (cells old : List ℕ) → length cells ≡ length old
 used_padded v n cells old e u =
     let left : length cells - n ≡ length old - length (take n cells) = rw length-take (omega arith) in
     sym (take-append-drop n cells) ∙ ap (λ (l : List ℕ). take n cells ++ l) (u ∙ ap (λ (k : ℕ). replicate k v) left)
+
+-- a buffer that was filled has no used cell
+pub filled_unused : (v : ℕ) (cells old : List ℕ) → cells ≡ replicate (length old) v → Unused v 0 cells
+filled_unused v cells old e =
+    let long : length cells ≡ length old = ap length e ∙ length-replicate (length old) v in
+    rw (sub-zero (length cells), long) e
 
 -- lengths of the buffers are kept
 pub record Kept (parents tops bottoms marks windows parents' tops' bottoms' marks' windows' : List ℕ) : Type 0 where
