@@ -1,5 +1,5 @@
 -- Group k of an accepted table, as it is read off the members' cells: its line is that of the grouping, and the lines of all groups have room.
-use Rattle.std.specs.Prelude.{ℕ, suc, pred, ◌+◌, ◌*◌, ◌≤◌, ◌<◌, ◌≡◌, true, length, get_or, drop, T}
+use Rattle.std.specs.Prelude.{ℕ, suc, pred, ◌+◌, ◌-◌, ◌*◌, ◌≤◌, ◌<◌, ◌≡◌, true, length, get_or, drop, replicate, T}
 use Rattle.std.specs.Borrow.{MutBor}
 use Rattle.std.proofs.Math.Path.{refl, sym}
 use Rattle.std.proofs.Common.{ap, ◌∙◌, zero-mul, suc-mul, mul-le-mul_right, mul-le-mul_left, arith, take-suc, get_or-take, get_or-drop}
@@ -27,7 +27,7 @@ use Rattle.schedule_laws.specs.Places.{job_known, job_in_lem}
 use Rattle.schedule_laws.proofs.Theorem.{places_are, schedule_groups}
 use Rattle.groups.specs.GroupPlan.{GroupPlan, same_full, same_count, flatten_part, flatten_length}
 use Rattle.lines.specs.declared.Writer.{Writer}
-use Rattle.lines.specs.Writing.{Printed}
+use Rattle.lines.specs.Writing.{Appended, Printed, printed_all}
 use Rattle.lines.specs.Writers.{written, output, Begun, Put, Cleared, printed_by}
 use Rattle.group_lines.specs.Lines.{bottom_at, job_digits, GroupCells, GroupAppended}
 
@@ -199,8 +199,16 @@ module _ (tb : Table) (g : ℕ) (ps : List ℕ) (tree : SettledTree) (members bo
   pub count_room : (out : List ℕ) (r : ℕ) (out' : List ℕ) → output_bytes ≤ length out → GroupsAppended tb g count out r out' → r + 7 ≤ length out'
   count_room out r out' long s = omega (arith, s.counted, s.sized, few_members, few_groups)
 
-  pub groups_printed : {r : ℕ} {left out' : List ℕ} {out : MutBor (List ℕ)} {w w₁ w₂ : Writer} → Begun out w → GroupsAppended tb g count (output w) (written w₁) (output w₁) → Put 7 (group_count_line count) w₁ w₂ → Cleared w₂ r left → out' ≡ left → Printed (group_bytes g tb) out.now r out'
+  -- what they leave in front of r is the grouping
+  groups_held : {out out₁ out₂ : List ℕ} {at r : ℕ} → GroupsAppended tb g count out at out₁ → Appended 7 at (group_count_line count) out₁ r out₂ → take r out₂ ≡ group_bytes g tb
   unfolding group_bytes
-  groups_printed b s l z e =
+  groups_held s l =
       let all : take count (groups_of tb g) ≡ groups_of tb g = take_all count (groups_of tb g) (omega (arith, p.count_is)) in
-      printed_by b (l.appended.sized ∙ s.sized) (l.appended.holds ∙ rw (s.holds, all, ← p.count_is) refl) z e
+      l.holds ∙ rw (s.holds, all, ← p.count_is) refl
+
+  pub groups_printed : (out out₁ out₂ out₃ : List ℕ) (at r : ℕ) → output_bytes ≤ length out → GroupsAppended tb g count out at out₁ → Appended 7 at (group_count_line count) out₁ r out₂ → out₃ ≡ take r out₂ ++ replicate (length out₂ - r) 0 → Printed (group_bytes g tb) out r out₃
+  groups_printed out out₁ out₂ out₃ at r long s l z = printed_all (group_bytes g tb) out r out₂ out₃ (l.sized ∙ s.sized) (omega (arith, count_room out at out₁ long s, l.moved, l.sized)) (groups_held s l) z
+
+  -- the same, by way of a writer
+  pub groups_put : {r : ℕ} {left out' : List ℕ} {out : MutBor (List ℕ)} {w w₁ w₂ : Writer} → Begun out w → GroupsAppended tb g count (output w) (written w₁) (output w₁) → Put 7 (group_count_line count) w₁ w₂ → Cleared w₂ r left → out' ≡ left → Printed (group_bytes g tb) out.now r out'
+  groups_put b s l z e = printed_by b (l.appended.sized ∙ s.sized) (groups_held s l.appended) z e

@@ -1,7 +1,7 @@
 -- What the whole runs answer, by press: the second one's 13, and its 14 exactly if no full grouping exists (document 02, 2026-07).
 use Rattle.std.specs.Prelude.{ℕ, ◌+◌, ◌-◌, ◌≤◌, ◌<◌, refl, true, false, ◌&&◌, List, ◌++◌, length, take, replicate, leb}
 use Rattle.std.proofs.Math.Path.{◌≡◌}
-use Rattle.std.proofs.Common.{sym, ap, ◌∙◌, true≢false, arith, take_at, lt-ltb, le-ltb, leb-true, append_assoc, length-append, length-take-le}
+use Rattle.std.proofs.Common.{sym, ap, ◌∙◌, true≢false, arith, lt-ltb, le-ltb, leb-true, append_assoc, length-append, length-take-le}
 use Rattle.std.proofs.lemmas.List.{replicate-append-replicate}
 use Rattle.std.proofs.Math.Bool.{and-eq-true_iff}
 use Rattle.model.specs.Jobs.{Table}
@@ -14,7 +14,7 @@ use Rattle.lines.specs.Writing.{Printed}
 use Rattle.run.specs.declared.Press.{Press}
 use Rattle.run.specs.declared.Press.TheVariants as press
 use Rattle.run.specs.Sound.{read_table_lem}
-use Rattle.run.specs.Whole.{press_known, press_bytes}
+use Rattle.run.specs.Whole.{press_known, press_bytes, printed_front}
 
 -- ---- what is printed for a table
 
@@ -36,10 +36,6 @@ lanes_least g e = leb-true least_lanes g ((and-eq-true_iff (leb least_lanes g) (
 
 pub lanes_most : (g : ℕ) → (leb least_lanes g && leb g most_lanes) ≡ true → g ≤ most_lanes
 lanes_most g e = leb-true g most_lanes ((and-eq-true_iff (leb least_lanes g) (leb g most_lanes)).0 e).1
-
--- what was printed stands in front of the zeros
-printed_front : {bytes output : List ℕ} {r : ℕ} {output' : List ℕ} → Printed bytes output r output' → take r output' ≡ bytes
-printed_front {bytes} {output} {r} p = ap (take r) p.holds ∙ take_at bytes (replicate (length output - length bytes) 0) r (sym p.counted)
 
 -- the line of a refusal has nine bytes
 refusal_length : (number place : ℕ) → length (refusal_bytes number place) ≡ 9

@@ -143,19 +143,18 @@ module _ (tb : Table) (ps : List ℕ) (tree : SettledTree) (highests bottoms wor
   unfolding pairs singles
   totals_room k out r out' long s = omega (arith, s.counted, s.sized, total_take pair_count k (passes tb), total_take single_count k (passes tb), jobs_counted tb, p.table.few)
 
+  -- what they leave in front of r is the plan
+  plan_held : (t : Totals) → TotalsOf tb t → (k : ℕ) → count ≤ k → {out out₁ out₂ : List ℕ} {at r : ℕ} → PassesAppended tb k out at out₁ → Appended 19 at (totals_line t.pairs t.singles t.visits) out₁ r out₂ → take r out₂ ≡ plan_bytes tb
+  unfolding plan_bytes
+  plan_held t of k h s l =
+      let all : take k (passes tb) ≡ passes tb = take_all k (passes tb) (rw p.count_is at h) in
+      l.holds ∙ rw (s.holds, all, of.pairs_are, of.singles_are, of.visits_are) refl
+
   pub plan_printed : (t : Totals) → TotalsOf tb t → (k : ℕ) → count ≤ k → (out out₁ out₂ out₃ : List ℕ) (at r : ℕ) → output_bytes ≤ length out → PassesAppended tb k out at out₁
       → Appended 19 at (totals_line t.pairs t.singles t.visits) out₁ r out₂ → out₃ ≡ take r out₂ ++ replicate (length out₂ - r) 0 → Printed (plan_bytes tb) out r out₃
-  unfolding plan_bytes
-  plan_printed t of k h out out₁ out₂ out₃ at r long s l z =
-      let all : take k (passes tb) ≡ passes tb = take_all k (passes tb) (rw p.count_is at h) in
-      printed_all (plan_bytes tb) out r out₂ out₃ (l.sized ∙ s.sized) (omega (arith, totals_room k out at out₁ long s, l.moved, l.sized))
-      (l.holds ∙ rw (s.holds, all, of.pairs_are, of.singles_are, of.visits_are) refl)
-      z
+  plan_printed t of k h out out₁ out₂ out₃ at r long s l z = printed_all (plan_bytes tb) out r out₂ out₃ (l.sized ∙ s.sized) (omega (arith, totals_room k out at out₁ long s, l.moved, l.sized)) (plan_held t of k h s l) z
 
   -- the same, by way of a writer
   pub plan_put : (t : Totals) → TotalsOf tb t → {r : ℕ} {left out' : List ℕ} {out : MutBor (List ℕ)} {w w₁ w₂ : Writer} → Begun out w → PassesAppended tb count (output w) (written w₁) (output w₁)
       → Put 19 (totals_line t.pairs t.singles t.visits) w₁ w₂ → Cleared w₂ r left → out' ≡ left → Printed (plan_bytes tb) out.now r out'
-  unfolding plan_bytes
-  plan_put t of b s l z e =
-      let all : take count (passes tb) ≡ passes tb = take_all count (passes tb) (omega (arith, p.count_is)) in
-      printed_by b (l.appended.sized ∙ s.sized) (l.appended.holds ∙ rw (s.holds, all, of.pairs_are, of.singles_are, of.visits_are) refl) z e
+  plan_put t of b s l z e = printed_by b (l.appended.sized ∙ s.sized) (plan_held t of count (omega arith) s l.appended) z e

@@ -1,7 +1,7 @@
 -- A run put together: arrays with room for the jobs of the input, and what the run prints and answers.
-use Rattle.std.specs.Prelude.{ℕ, ◌+◌, ◌*◌, ◌^◌, ◌≤◌, ◌<◌, ◌≡◌, refl, Bool, true, ◌&&◌, Result, Ok, Err, List, length, take, replicate, leb}
+use Rattle.std.specs.Prelude.{ℕ, ◌+◌, ◌-◌, ◌*◌, ◌^◌, ◌≤◌, ◌<◌, ◌≡◌, refl, Bool, true, ◌&&◌, Result, Ok, Err, List, [], length, take, replicate, leb}
 use Rattle.std.proofs.Math.Nat.{sub-zero}
-use Rattle.std.proofs.Common.{arith, length-take-le}
+use Rattle.std.proofs.Common.{sym, ap, ◌∙◌, arith, take_at, length-take-le}
 use Rattle.std.proofs.lemmas.List.{length-replicate}
 use Rattle.model.specs.Answers.{reason_number}
 use Rattle.model.specs.Tree.{FFFF, layout_limit}
@@ -86,11 +86,15 @@ unfolding reading_bytes group_reading_bytes
 refusal_printed press.TwoLanes t output r n output' e p = rw e p
 refusal_printed (press.FullPasses lanes) t output r n output' e p = rw e p
 
--- and told as one
+-- what was printed stands in front of the zeros
+pub printed_front : {bytes output : List ℕ} {r : ℕ} {output' : List ℕ} → Printed bytes output r output' → take r output' ≡ bytes
+printed_front {bytes} {output} {r} p = ap (take r) p.holds ∙ take_at bytes (replicate (length output - length bytes) 0) r (sym p.counted)
+
+-- and told as one: so printed, even to an output of no bytes, it is the line of the refusal
 pub refusal_told : (x : Press) (t : Reading) (output : List ℕ) (r : Refusal) → t ≡ stopped (reason_number r.reason) r.place → Told (press_bytes x t) output output (Err r)
-unfolding reading_bytes group_reading_bytes
-refusal_told press.TwoLanes t output r e = (refl, rw e refl)
-refusal_told (press.FullPasses lanes) t output r e = (refl, rw e refl)
+refusal_told x t output r e =
+    let line : Printed (refusal_bytes (reason_number r.reason) r.place) [] _ _ = record { counted = refl; holds = refl } in
+    (refl, sym (printed_front (refusal_printed x t [] r _ _ e line)) ∙ printed_front line)
 
 -- the plan of a table is what is printed for two lanes
 pub plan_printed : (tb : Table) (output : List ℕ) (r : ℕ) (output' : List ℕ) → Printed (plan_bytes tb) output r output' → Printed (press_bytes press.TwoLanes (read tb)) output r output'

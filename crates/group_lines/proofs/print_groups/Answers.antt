@@ -1,5 +1,5 @@
 -- The groups, their number and zeros after them.
-use Rattle.std.proofs.Common.{rules, ◌≤◌, refl, ap, arith, length}
+use Rattle.std.proofs.Common.{rules, ◌≤◌, ◌≡◌, refl, sym, ap, ◌∙◌, arith, length}
 use Rattle.model.specs.Output.{output_bytes}
 use Rattle.lines.specs.Writers.{output}
 use Rattle.ancestry.specs.Room.{roomy_all}
@@ -28,4 +28,8 @@ put_group_count-requires c =
     count_room p.0 _ _ _ _ _ _ _ p.1 _ _ _ long (c.put_groups.ensures.appended p.0 _ _ (rw c.new-common.ensures.same_tree p.1) c.new-common.ensures.searchable)
 
 pub returns : goal.returns
-returns c = λ tb p. groups_printed tb _ _ _ _ _ _ _ p c.new-writer.ensures (c.put_groups.ensures.appended tb _ _ (rw c.new-common.ensures.same_tree p) c.new-common.ensures.searchable) c.put_group_count.ensures c.finish.ensures (search rules)
+returns c = λ tb p.
+    let left : c.out-1.given.0 ≡ c.finish.new.self.0 = search rules in
+    let put = c.put_groups.ensures.appended tb c.args.parents.now c.args.groups (rw c.new-common.ensures.same_tree p) c.new-common.ensures.searchable in
+    let end = c.finish.ensures in
+    groups_printed tb _ _ _ _ _ _ _ p _ _ _ _ _ _ c.requires.output_bytes_in_bounds (rw c.new-writer.ensures.kept at put) (rw (sym end.counted) at c.put_group_count.ensures.appended) (left ∙ end.holds)
