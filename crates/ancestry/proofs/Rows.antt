@@ -6,7 +6,7 @@ use native.Mathlib.Nat.{pow-suc, mul-le-mul_right, suc-mul, zero-mul, one-mul}
 use native.Mathlib.Decide.{ℕ_discrete, dec_le}
 use native.Mathlib.Omega.{arith}
 use lib.ListN.{length, get_or, set, replicate, length-set, get_or-replicate}
-use lib.Seq.{get_or-set_other}
+use lib.Seq.{get_or-set_same, get_or-set_other}
 use lib.Dec.{lit<}
 use lib.Pow.{pow_mono, shl_exact}
 use lib.Count.{count_leading_zeros, leading_length}
@@ -72,9 +72,12 @@ module _ (ps : List ℕ) where
   two_rows : (cells : List ℕ) → Roomy ps cells → stride_of ps + stride_of ps ≤ length cells
   two_rows cells r = omega (arith, row_room ps cells r 1 (omega arith), one-mul (stride_of ps))
 
+  pub parent_inside : (cells : List ℕ) → Roomy ps cells → (k : ℕ) → k ≤ last_leaf ps 0 → stride_of ps + k < length cells
+  parent_inside cells r k h = omega (arith, two_rows cells r)
+
   -- so it has a cell in row 1
   pub leaf_inside : (tree : SettledTree) → Spanned ps tree → (cells : List ℕ) → Roomy ps cells → (x leaf : ℕ) → x < length ps → leaf ≡ get_or tree.first_leaves x 0 → stride_of ps + leaf < length cells
-  leaf_inside tree s cells r x leaf h e = omega (arith, two_rows cells r, (leaf_read tree s x leaf h e).1)
+  leaf_inside tree s cells r x leaf h e = parent_inside cells r leaf (leaf_read tree s x leaf h e).1
 
   pub parents_none : (cells : List ℕ) → 0 < length ps → Roomy ps cells → cells ≡ replicate (length cells) FFFF → ParentsTo ps 1 cells
   parents_none cells nonempty r e =
@@ -121,6 +124,23 @@ module _ (ps : List ℕ) where
       rows (suc (suc n)) k h short = absurd (omega arith)
 
 -- ---- a row after the other
+
+pub row_none : (at stride half : ℕ) (old : List ℕ) → RowSet at stride half 0 old old
+row_none at stride half old = record { kept = refl; before = λ i h. refl; set_to = λ k h. absurd (omega arith) }
+
+pub row_more : (at stride half k v : ℕ) (old new : List ℕ) → at + stride + stride ≤ length old → k + (half + half) < stride → v ≡ min (get_or new (at + k) 0) (get_or new (at + k + half) 0) → RowSet at stride half k old new → RowSet at stride half (k + 1) old (set new (at + stride + k) v)
+row_more at stride half k v old new room short is r =
+    record {
+      kept = length-set {A = ℕ} new (at + stride + k) v ∙ r.kept;
+      before = λ i h. get_or-set_other new (at + stride + k) i v 0 (omega arith) ∙ r.before i h;
+      set_to = λ j h. elim (ℕ_discrete j k) [
+        | yes same ↦ rw (same, get_or-set_same new (at + stride + k) v 0 (omega (arith, r.kept)), is, r.before (at + k) (omega arith), r.before (at + k + half) (omega arith)) refl
+        | no other ↦ get_or-set_other new (at + stride + k) (at + stride + j) v 0 (omega arith) ∙ r.set_to j (omega arith)
+      ];
+    }
+
+pub row_all : (at stride half k : ℕ) (old new : List ℕ) → stride ≤ k + (half + half) → RowSet at stride half k old new → RowSet at stride half (stride - (half + half)) old new
+row_all at stride half k old new end r = record { kept = r.kept; before = r.before; set_to = λ j h. r.set_to j (omega arith) }
 
 -- the rows so far, the last of which begins at `at`, with blocks as long as `half`
 pub record Rows (ps : List ℕ) (at half m : ℕ) (cells : List ℕ) : Type 0 where

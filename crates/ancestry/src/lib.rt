@@ -40,8 +40,9 @@ fn set_parents(parents: &[u16], tree: &SettledTree, stride: usize, minima: &mut 
     ensures { RowsTo parents.now 1 minima.new }
 {
     for x in 1..parents.len() {
+        let parent = LayoutNumber(parents[x]);
         let at = stride + tree.first_leaf(LayoutNumber(x as u16));
-        minima[at] = minima[at].min(parents[x]);
+        minima[at] = LayoutNumber(minima[at]).min(parent).0;
     }
 }
 
@@ -52,9 +53,9 @@ fn set_row(minima: &mut [u16], at: usize, stride: usize, half: usize)
     ensures { RowSet at stride half (stride - (half + half)) minima.old minima.new }
 {
     for k in 0..stride - 2 * half {
-        let left = minima[at + k];
-        let right = minima[at + k + half];
-        minima[at + stride + k] = left.min(right);
+        let left = LayoutNumber(minima[at + k]);
+        let right = LayoutNumber(minima[at + k + half]);
+        minima[at + stride + k] = left.min(right).0;
     }
 }
 
@@ -105,9 +106,9 @@ impl<'a> CommonAncestors<'a> {
         let bits = (usize::BITS - (to - from).leading_zeros()) as usize;
         let row = bits * stride_of(self.tree);
         let block = (1usize << bits) / 2;
-        let left = self.minima[row + from];
-        let right = self.minima[row + to - block];
-        LayoutNumber(left.min(right))
+        let left = LayoutNumber(self.minima[row + from]);
+        let right = LayoutNumber(self.minima[row + to - block]);
+        left.min(right)
     }
 
     // The lowest common ancestor of x and y; a layout counts as its own.

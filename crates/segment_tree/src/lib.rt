@@ -51,23 +51,23 @@ fn sibling(node: usize) -> usize
     node ^ 1
 }
 
-// Part of a search: what is left of a span, with the smallest node taken in so far.
+// Part of a search: what is left of a span, with the smallest place taken in so far.
 #[derive(Clone, Copy)]
 struct Span {
     left: usize,
     right: usize,
-    least: u16,
+    least: Rank,
 }
 
 // The smallest of the nodes from `left` up to `right`, which stand on one level, and of `least`.
-fn level_minimum(nodes: &[u16], left: usize, right: usize, least: u16) -> u16
+fn level_minimum(nodes: &[u16], left: usize, right: usize, least: Rank) -> Rank
     requires left_le_right { left ≤ right }
     requires right_in_bounds { right ≤ length nodes.now }
-    ensures { result ≡ min least (least_of (node_at nodes.now) left (right - left)) }
+    ensures { result.0 ≡ min least.0 (least_of (node_at nodes.now) left (right - left)) }
 {
     nodes[left..right]
         .iter()
-        .fold(least, |least, &node| least.min(node))
+        .fold(least, |least, &node| least.min(Rank(node)))
 }
 
 // The places that can wait in a span: none before the first, and none after the last.
@@ -108,7 +108,7 @@ impl Shape {
         nodes[leaf] = place.0;
         let mut node = leaf / 2;
         while self.kept <= node {
-            nodes[node] = nodes[node].min(place.0);
+            nodes[node] = Rank(nodes[node]).min(place).0;
             node /= 2;
         }
     }
@@ -120,12 +120,12 @@ impl Shape {
         ensures { Removed self.kept self.width nodes.old slot nodes.new }
     {
         let mut node = self.width + slot;
-        let mut least = model::ABSENT;
-        nodes[node] = least;
+        let mut least = Rank(model::ABSENT);
+        nodes[node] = least.0;
         while 2 * self.kept <= node {
-            least = least.min(nodes[sibling(node)]);
+            least = least.min(Rank(nodes[sibling(node)]));
             node /= 2;
-            nodes[node] = least;
+            nodes[node] = least.0;
         }
     }
 
@@ -133,13 +133,13 @@ impl Shape {
     // the parents that lie wholly inside.
     fn narrow(self, nodes: &[u16], from: usize, to: usize) -> Span
         requires { Narrowable self.kept self.width nodes.now from to }
-        ensures { Narrowed self.kept self.width nodes.now from to result.left result.right result.least }
+        ensures { Narrowed self.kept self.width nodes.now from to result.left result.right result.least.0 }
     {
         let mut left = from;
         let mut right = to;
-        let mut least = model::ABSENT;
+        let mut least = Rank(model::ABSENT);
         while left < right && 2 * self.kept <= left {
-            least = least.min(nodes[left].min(nodes[right - 1]));
+            least = least.min(Rank(nodes[left]).min(Rank(nodes[right - 1])));
             left = (left + 1) / 2;
             right /= 2;
         }
@@ -147,11 +147,11 @@ impl Shape {
     }
 
     // The smallest place in the slots from `from` up to `to`, FFFF for none, from the slots up.
-    fn range_minimum(self, nodes: &[u16], from: usize, to: usize) -> u16
+    fn range_minimum(self, nodes: &[u16], from: usize, to: usize) -> Rank
         requires segment_tree { SegmentTree self.kept self.width nodes.now }
         requires from_le_to { from ≤ to }
         requires to_le_width { to ≤ self.width }
-        ensures { result ≡ smallest (entries_in self.width nodes.now) from to }
+        ensures { result.0 ≡ smallest (entries_in self.width nodes.now) from to }
     {
         let span = self.narrow(nodes, self.width + from, self.width + to);
         level_minimum(nodes, span.left, span.right, span.least)
@@ -179,11 +179,11 @@ impl Shape {
             return None;
         }
         if from <= slot && slot < to {
-            if first.0 == nodes[self.width + slot] {
+            if first == Rank(nodes[self.width + slot]) {
                 return Some(first);
             }
         }
-        Rank::in_cell(self.range_minimum(nodes, from, to))
+        Rank::in_cell(self.range_minimum(nodes, from, to).0)
     }
 }
 

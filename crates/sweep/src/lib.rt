@@ -114,7 +114,7 @@ impl Partition {
             return false;
         }
         let leaf = NODES * self.count + self.shape.width + slot;
-        place.0 == work[leaf]
+        place == Rank(work[leaf])
     }
 
     // The first place that can be the mate of a place, further on than told where its span is wide: up to TRIES places that do not wait there are passed by.
@@ -157,11 +157,11 @@ impl Partition {
 
     // A place takes the mate that is found, if one is: it waits no longer and asks nobody any more.
     pub fn take_mate(self, work: &mut [u16], place: Rank, mate: Option<Rank>)
-        requires takable { MateTakable self.count self.shape.kept self.shape.width (cell_of mate) work.old }
-        requires is_place { IfSome mate (λ mate. mate.0 ≢ FFFF) }
+        requires { MateTakable self.count self.shape.kept self.shape.width (cell_of mate) work.old }
         ensures { MateTaken self.count self.shape.kept self.shape.width place.0 (cell_of mate) work.old work.new }
     {
-        let Some(mate) = mate else {
+        // FFFF is no place, so such a mate is none.
+        let Some(mate) = Rank::in_cell(Rank::cell_of(mate)) else {
             return;
         };
         self.remove_place(work, mate);

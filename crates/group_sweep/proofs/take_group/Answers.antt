@@ -28,8 +28,8 @@ returns-in_err-mate c =
     let t = mate_taking _ _ _ _ _ _ _ _ _ _ _ _ f.turn _ refl _ (record { none = λ _. refl; one = λ other. absurd (other none) }) in
     rw c.from_residual.ensures (group_short _ _ _ _ _ _ _ _ _ _ _ _ _ _ _ _ _ _ f (omega arith) _ _ t none)
 
-pub take_mate-requires-clause-takable : goal.take_mate-requires-clause-takable
-take_mate-requires-clause-takable c =
+pub take_mate-requires : goal.take_mate-requires
+take_mate-requires c =
     let p = c.requires in
     let f = c.loop-taken.invariant.2 p.0 p.1 p.2 p.3 _ _ p.4.near (so_far_first _ _ _ _ _ _ _ _ _ _ _ _ _ _ _ _ p.4 _ c.remove_place.ensures.front (turn_begins _ _ _ _ _ _ _ _ _ _ _ _ p.4.asking _ c.remove_place.ensures)) in
     let held = held_one _ _ (sym c.find_mate.ensures ∙ c.in_ok-mate.was) in

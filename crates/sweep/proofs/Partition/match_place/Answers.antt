@@ -18,8 +18,8 @@ lookup_visits-visits-requires c = rw c.number_in-from.ensures (turn_span _ _ _ _
 pub approach-first-requires : goal.approach-first-requires
 approach-first-requires c = turn_searchable _ _ _ _ _ _ _ _ _ _ _ _ (turn_begins _ _ _ _ _ _ _ _ _ _ _ _ c.requires.2 _ c.remove_place.ensures)
 
-pub take_mate-requires-clause-takable : goal.take_mate-requires-clause-takable
-take_mate-requires-clause-takable c =
+pub take_mate-requires : goal.take_mate-requires
+take_mate-requires c =
     rw (c.find_mate-mate.ensures, cell_back) (mate_takable _ _ _ _ _ _ _ _ _ _ _ _ (turn_begins _ _ _ _ _ _ _ _ _ _ _ _ c.requires.2 _ c.remove_place.ensures) _ refl)
 
 pub returns-clause-chosen : goal.returns-clause-chosen
