@@ -36,7 +36,7 @@ fn digit_byte(digit: u8) -> u8
 
 // What each byte counts as a digit of upper-case hexadecimal. A caller makes them once and lends them to every read: which digit comes next is not to be foreseen,
 // so tests would cost more than the table.
-#[derive(Drop)]
+#[derive(Clone, Copy)]
 pub struct DigitTable {
     pub counts: [u32; 256],
     pub ghost right: { DigitValues counts },

@@ -228,7 +228,8 @@ fn run_with<const JOBS: usize, const WORK: usize>(
     )
 }
 
-// The run in arrays by the size of the input.
+// The run in arrays by the size of the input. It stays a function of its own, so that what is refused before it takes no arrays on the stack.
+#[inline(never)]
 fn run_sized(input: &[u8], output: &mut [u8; OUTPUT], press: KnownPress) -> Result<usize, Refusal>
     ensures { Told (press_bytes «press».press (read_table input.now)) output.old output.new result }
 {

@@ -12,7 +12,7 @@ ghost use Rattle.settle.specs.Numbering.{FirstWrong, linked_layout, Unlinked, Li
 use model::{LayoutNumber, Reason, Refusal};
 
 // Depth, branch, first leaf and last leaf of each layout, by number.
-#[derive(Drop)]
+#[derive(Clone, Copy)]
 pub struct SettledTree {
     pub depths: [u16; LayoutNumber::LIMIT],
     pub branches: [u16; LayoutNumber::LIMIT],
