@@ -68,7 +68,10 @@ fn copy_leading(from: &[u16], to: &mut [u16])
     ensures { to.new ≡ copied from.now to.old }
 {
     let count = from.len().min(to.len());
-    to[..count].copy_from_slice(&from[..count]);
+    // `copy_from_slice` would call `memmove`, which the archive needs for nothing else.
+    for i in 0..count {
+        to[i] = from[i];
+    }
 }
 
 // *Shared stretch*: the length of the stretch. Its numbers are copied to `out`, as far as there is room.

@@ -35,7 +35,10 @@ fn copy_columns(tops: &[u16], marks: &[u8], uppers: &mut [u16], quiet: &mut [u8]
     ensures uppers_after { uppers.new ≡ tops.now ++ drop (length tops.now) uppers.old }
     ensures quiet_after { quiet.new ≡ marks.now ++ drop (length tops.now) quiet.old }
 {
-    uppers[..tops.len()].copy_from_slice(tops);
+    // `copy_from_slice` between two lent slices would call `memmove`, which an archive needs for nothing else.
+    for j in 0..tops.len() {
+        uppers[j] = tops[j];
+    }
     quiet[..marks.len()].copy_from_slice(marks);
 }
 
