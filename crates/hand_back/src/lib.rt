@@ -65,7 +65,9 @@ fn write_pass(pass: Pass, partners: &mut [u16], uppers: &mut [u16], printed: &mu
     }
 }
 
-// Hands all passes back, into results of one cell for each job. The uppers hold the highest layout of each job at first.
+// Hands all passes back, into results of one cell for each job. The uppers hold the highest layout of each job at first. It stays a function of its own, so that its
+// minima take no stack while the schedule is worked out.
+#[inline(never)]
 pub fn hand_back(
     parents: &[u16],
     tree: &SettledTree,
