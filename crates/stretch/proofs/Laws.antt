@@ -1,7 +1,7 @@
 -- Laws in the shape that the functions' proofs ask for. The passes of the two loops: what has been walked, and the definition of what
 -- remains, make the definition of the whole. Then the cases of `leading`, and the outcome from its case.
-use Prim.Native.Nat.{ℕ, ◌+◌, ◌*◌, ◌≤◌, ◌<◌}
-use mathlib.Core.Path.{◌≡◌, refl, sym}
+use Prim.Native.Nat.{ℕ, zero, suc, ◌+◌, ◌*◌, ◌≤◌, ◌<◌, min}
+use mathlib.Core.Path.{◌≡◌, refl, sym, ap}
 use mathlib.Core.Logic.{⊎_elim}
 use mathlib.Core.Bool.{true, false}
 use mathlib.Core.List.{List, [], ◌∷◌}
@@ -13,7 +13,7 @@ use lib.Dec.{eqb}
 use denote.Ref.{Bor}
 use Rattle.std.specs.Prelude.{Some, None, position, take_while, zip}
 use Rattle.std.specs.List.{position_or_len}
-use Rattle.std.proofs.Common.{◌∙◌, one-add, inl, inr, lt-ltb}
+use Rattle.std.proofs.Common.{◌∙◌, one-add, inl, inr, lt-ltb, le-ltb}
 use Rattle.std.proofs.Math.Decide.{dec_lt}
 use Rattle.std.proofs.lemmas.List.Sums.{position_or_len_is}
 use Rattle.std.proofs.lemmas.List.Recursion.{is_position_or_len}
@@ -39,6 +39,27 @@ index_none x ys e = rw (index_is x ys) (elim (dec_lt (position_or_len (eqb x) ys
   | no more ↦ omega arith
 ])
 
+-- no number before a place is the one that is sought
+abbrev pub PassedBy : ℕ → List ℕ → ℕ → Type 0
+PassedBy x xs n = (j : ℕ) → j < n → eqb x (get_or xs j 0) ≡ false
+
+-- the place that was looked at, k, is the next one, n: it holds the number, or is passed by too
+pub place_found : (x : ℕ) (xs : List ℕ) (n k : ℕ) → eqb x (get_or xs k 0) ≡ true → n ≡ k → n < length xs → PassedBy x xs n → Some n ≡ position (eqb x) xs
+place_found x xs n k here e less before =
+    let first : position_or_len (eqb x) xs ≡ n = position_or_len_is (eqb x) xs n 0 (omega arith) before (λ h. rw e here) in
+    rw (first, lt-ltb n (length xs) less) refl
+
+pub place_passed : (x : ℕ) (xs : List ℕ) (n k : ℕ) → eqb x (get_or xs k 0) ≡ false → n ≡ k → PassedBy x xs n → PassedBy x xs (n + 1)
+place_passed x xs n k here e before j h = elim (dec_lt j n) [
+  | yes less ↦ before j less
+  | no more ↦ let is : j ≡ k = omega arith in rw is here
+]
+
+pub place_none : (x : ℕ) (xs : List ℕ) (n : ℕ) → length xs ≤ n → PassedBy x xs n → None ≡ position (eqb x) xs
+place_none x xs n past before =
+    let none : position_or_len (eqb x) xs ≡ length xs = position_or_len_is (eqb x) xs (length xs) 0 (omega arith) (λ j h. before j (omega arith)) (λ h. absurd (omega arith)) in
+    rw (none, le-ltb (length xs) (length xs) (omega arith)) refl
+
 -- the agreement of two lists is how many of their first pairs are of equal numbers
 pub agreement_zipped : (xs ys : List ℕ) → length (take_while (λ (p : ℕ × ℕ). eqb p.0 p.1) (zip xs ys)) ≡ agreement xs ys
 unfolding agreement
@@ -48,6 +69,15 @@ agreement_zipped (x ∷ xs) (y ∷ ys) = elim (answers (eqb x y)) [
   | inl same ↦ rw (same, one-add, agreement_zipped xs ys)
   | inr other ↦ rw other
 ]
+
+-- the pairs of two lists are those of their parts of the shorter one's length
+pub zip_shorter : (n : ℕ) (xs ys : List ℕ) → min (length xs) (length ys) ≤ n → zip (take n xs) (take n ys) ≡ zip xs ys
+zip_shorter zero [] ys h = refl
+zip_shorter (suc n) [] ys h = refl
+zip_shorter zero (x ∷ xs) [] h = refl
+zip_shorter (suc n) (x ∷ xs) [] h = refl
+zip_shorter zero (x ∷ xs) (y ∷ ys) h = absurd (omega (arith, h))
+zip_shorter (suc n) (x ∷ xs) (y ∷ ys) h = ap (λ l. (x, y) ∷ l) (zip_shorter n xs ys (omega (arith, h)))
 
 -- a list with no number has no leading part
 pub leading_none : (xs ys : List ℕ) → length xs ≡ 0 → 0 ≡ leading xs ys

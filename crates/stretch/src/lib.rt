@@ -62,15 +62,23 @@ fn leading(list: &[u16], other: &[u16]) -> usize
 fn position_of(layout: LayoutNumber, list: &[u16]) -> Option<usize>
     ensures { result ≡ position (λ x. eqb layout.0 x) list.now }
 {
-    list.iter().position(|&here| layout == LayoutNumber(here))
+    for position in 0..list.len() {
+        if layout == LayoutNumber(list[position]) {
+            return Some(position);
+        }
+    }
+    None
 }
 
 // How many leading numbers are the same in both lists.
 fn agreement(list: &[u16], other: &[u16]) -> usize
     ensures { result ≡ length (take_while (λ p. eqb p.0 p.1) (zip list.now other.now)) }
 {
-    list.iter()
-        .zip(other)
+    // The parts are of one length, so that for each number the end of one list is tested, and not of both.
+    let shorter = list.len().min(other.len());
+    list[..shorter]
+        .iter()
+        .zip(&other[..shorter])
         .take_while(|(here, there)| here == there)
         .count()
 }
