@@ -48,7 +48,9 @@ fn take_group(
     members[at] = place.0;
     for taken in 1..lanes.0 {
         let further = Candidates { first, last };
-        let mate = partition.find_mate(work, place, further, to)?;
+        let Some(mate) = partition.find_mate(work, place, further, to) else {
+            return None;
+        };
         partition.take_mate(work, place, Some(mate));
         members[at + taken] = mate.0;
         first = schedule::near_to(gaps, mate);

@@ -20,26 +20,26 @@ find_mate-requires c =
     turn_searchable _ _ _ _ _ _ _ _ _ _ _ _ f.turn
 
 -- too few are found
-pub returns-in_err-mate : goal.returns-in_err-mate
-returns-in_err-mate c =
+pub returns-in_default : goal.returns-in_default
+returns-in_default c =
     λ s next base size a.
     let f = c.loop-taken.invariant.2 s next base size _ _ a.near (so_far_first _ _ _ _ _ _ _ _ _ _ _ _ _ _ _ _ a _ c.remove_place.ensures.front (turn_begins _ _ _ _ _ _ _ _ _ _ _ _ a.asking _ c.remove_place.ensures)) in
-    let none = held_none _ (sym c.find_mate.ensures ∙ c.in_err-mate.was) in
+    let none = held_none _ (sym c.find_mate.ensures ∙ c.in_default.is) in
     let t = mate_taking _ _ _ _ _ _ _ _ _ _ _ _ f.turn _ refl _ (record { none = λ _. refl; one = λ other. absurd (other none) }) in
-    rw c.from_residual.ensures (group_short _ _ _ _ _ _ _ _ _ _ _ _ _ _ _ _ _ _ f (omega arith) _ _ t none)
+    group_short _ _ _ _ _ _ _ _ _ _ _ _ _ _ _ _ _ _ f (omega arith) _ _ t none
 
 pub take_mate-requires : goal.take_mate-requires
 take_mate-requires c =
     let p = c.requires in
     let f = c.loop-taken.invariant.2 p.0 p.1 p.2 p.3 _ _ p.4.near (so_far_first _ _ _ _ _ _ _ _ _ _ _ _ _ _ _ _ p.4 _ c.remove_place.ensures.front (turn_begins _ _ _ _ _ _ _ _ _ _ _ _ p.4.asking _ c.remove_place.ensures)) in
-    let held = held_one _ _ (sym c.find_mate.ensures ∙ c.in_ok-mate.was) in
+    let held = held_one _ _ (sym c.find_mate.ensures ∙ c.in-Some.is) in
     rw held.0 (mate_takable _ _ _ _ _ _ _ _ _ _ _ _ f.turn _ refl)
 
 pub bounds-members-at-in-loop-taken : goal.bounds-members-at-in-loop-taken
 bounds-members-at-in-loop-taken c =
     let p = c.requires in
     let f = c.loop-taken.invariant.2 p.0 p.1 p.2 p.3 _ _ p.4.near (so_far_first _ _ _ _ _ _ _ _ _ _ _ _ _ _ _ _ p.4 _ c.remove_place.ensures.front (turn_begins _ _ _ _ _ _ _ _ _ _ _ _ p.4.asking _ c.remove_place.ensures)) in
-    let held = held_one _ _ (sym c.find_mate.ensures ∙ c.in_ok-mate.was) in
+    let held = held_one _ _ (sym c.find_mate.ensures ∙ c.in-Some.is) in
     let took = rw held.0 at c.take_mate.ensures in
     let t = mate_taking _ _ _ _ _ _ _ _ _ _ _ _ f.turn _ refl _ took in
     let below : c.args.at + c.loop-taken.taken < c.args.partition.count = next_inside _ _ _ _ _ _ _ _ _ _ _ _ _ _ _ _ _ _ f (omega arith) _ _ t held.1 in
@@ -49,7 +49,7 @@ pub near_to-first-requires-clause-place_in_bounds : goal.near_to-first-requires-
 near_to-first-requires-clause-place_in_bounds c =
     let p = c.requires in
     let f = c.loop-taken.invariant.2 p.0 p.1 p.2 p.3 _ _ p.4.near (so_far_first _ _ _ _ _ _ _ _ _ _ _ _ _ _ _ _ p.4 _ c.remove_place.ensures.front (turn_begins _ _ _ _ _ _ _ _ _ _ _ _ p.4.asking _ c.remove_place.ensures)) in
-    let held = held_one _ _ (sym c.find_mate.ensures ∙ c.in_ok-mate.was) in
+    let held = held_one _ _ (sym c.find_mate.ensures ∙ c.in-Some.is) in
     let took = rw held.0 at c.take_mate.ensures in
     let t = mate_taking _ _ _ _ _ _ _ _ _ _ _ _ f.turn _ refl _ took in
     let inside = rw (← held.0) at (t.one_found held.1).0.inside in
@@ -57,7 +57,7 @@ near_to-first-requires-clause-place_in_bounds c =
 
 pub loop-taken-preserved : goal.loop-taken-preserved
 loop-taken-preserved c =
-    let held = held_one _ _ (sym c.find_mate.ensures ∙ c.in_ok-mate.was) in (
+    let held = held_one _ _ (sym c.find_mate.ensures ∙ c.in-Some.is) in (
       omega arith,
       rw length-set c.loop-taken.invariant.1,
       λ s next base size old before near f₀.
